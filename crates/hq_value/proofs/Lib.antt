@@ -1,0 +1,4 @@
+pub mod Derived
+pub mod Equal
+pub mod Order
+pub mod Sorting

@@ -1,0 +1,5 @@
+pub mod Bucket
+pub mod Causes
+pub mod Order
+pub mod Sorting
+pub mod Tables
