@@ -1,0 +1,186 @@
+-- The pieces of an input, cut once.
+use Rattle.std.proofs.Common.{◌≡◌, ◌≢◌, ◌+◌, ◌<◌, ◌≤◌, ℕ, Bool, true, false, cond, List, [], ◌∷◌, ◌++◌, length, nat_le, None, Some, refl, ap, sym, ◌∙◌, append_assoc, append-nil, arith, eqb}
+use Rattle.std.proofs.lemmas.Bool.Decides.{nat_tests}
+use Rattle.hq_io.specs.Pieces.{texts, onto_first, pieces_of, ended_pieces, ended_piece, rest_pieces, Piece, unended, MOST}
+use Rattle.std.proofs.Common.{◌^◌, IfSome, inl, inr, subst, length-append}
+use Rattle.std.specs.declared.option.Option.{Option}
+use Rattle.std.specs.Io.KnownBytes.{prepend_known}
+use Rattle.hq_io.specs.declared.kind.Kind.{Kind}
+use Rattle.hq_io.specs.declared.kind.Kind.TheVariants as kinds
+use Rattle.hq_io.specs.declared.gather.Stop.{Stop}
+use Rattle.hq_io.specs.declared.gather.Stop.TheVariants as stops
+use Rattle.hq_io.specs.Told.{IfTold}
+use Rattle.hq_io.specs.Counted.{Counted}
+use Rattle.hq_io.specs.Pieces.{is_blank}
+use Rattle.hq_io.specs.Reading.{Reading, ahead, ahead_of, pieces_given, Cuts, PassesLimit, GivesAll, Ends, EndsNone, Breaks}
+use Rattle.hq_io.specs.Gathering.{Unbroken, Gathered, Stopped, Uncut, kind_of, is_rest}
+
+onto_first-some : (b : ℕ) (ts : List (List ℕ)) → (first : List ℕ) × (more : List (List ℕ)) × (onto_first b ts ≡ first ∷ more)
+onto_first-some b [] = (b ∷ [], [], refl)
+onto_first-some b (t ∷ ts) = (b ∷ t, ts, refl)
+
+-- the texts of an input are never none
+pub texts-some : (xs : List ℕ) → (first : List ℕ) × (more : List (List ℕ)) × (texts xs ≡ first ∷ more)
+texts-some [] = ([], [], refl)
+texts-some (b ∷ bs) = elim (eqb b 59) as (λ v. (first : List ℕ) × (more : List (List ℕ)) × (cond v ([] ∷ texts bs) (onto_first b (texts bs)) ≡ first ∷ more)) [ true ↦ ([], texts bs, refl) | false ↦ onto_first-some b (texts bs) ]
+
+pub texts-cut : (seen rest : List ℕ) → Unbroken seen → texts (seen ++ 59 ∷ rest) ≡ seen ∷ texts rest
+texts-cut [] rest u = refl
+texts-cut (b ∷ bs) rest u = let n : b ≢ 59 = u.0 in let e : texts (bs ++ 59 ∷ rest) ≡ bs ∷ texts rest = texts-cut bs rest u.1 in grind (arith, nat_tests)
+
+pub texts-rest : (seen : List ℕ) → Unbroken seen → texts seen ≡ seen ∷ []
+texts-rest [] u = refl
+texts-rest (b ∷ bs) u = let n : b ≢ 59 = u.0 in let e : texts bs ≡ bs ∷ [] = texts-rest bs u.1 in grind (arith, nat_tests)
+
+pub pieces-cut : (seen rest : List ℕ) → Unbroken seen → pieces_of (seen ++ 59 ∷ rest) ≡ ended_piece seen ∷ pieces_of rest
+pieces-cut seen rest u = let some = texts-some rest in let e : texts rest ≡ some.0 ∷ some.1 = some.2 in rw (texts-cut seen rest u, e) refl
+
+pub pieces-rest : (seen : List ℕ) → Unbroken seen → pieces_of seen ≡ rest_pieces seen
+pieces-rest seen u = rw (texts-rest seen u) refl
+
+pub ended-cut : (seen rest : List ℕ) → Unbroken seen → ended_pieces (seen ++ 59 ∷ rest) ≡ ended_piece seen ∷ ended_pieces rest
+ended-cut seen rest u = let some = texts-some rest in let e : texts rest ≡ some.0 ∷ some.1 = some.2 in rw (texts-cut seen rest u, e) refl
+
+pub ended-none : (seen : List ℕ) → Unbroken seen → ended_pieces seen ≡ []
+ended-none seen u = rw (texts-rest seen u) refl
+
+le-false : (m n : ℕ) → n < m → nat_le m n ≡ false
+le-false m n h = grind (arith, nat_tests)
+
+le-true : (m n : ℕ) → m ≤ n → nat_le m n ≡ true
+le-true m n h = grind (arith, nat_tests)
+
+-- the piece that a text gives, by whether it was too long
+ended-is : (long : Bool) (seen text : List ℕ) → Gathered seen long text → ended_piece seen ∷ [] ≡ pieces_given (kind_of (stops.Ended long) text) text
+ended-is true seen text g = rw (le-false (length seen) MOST g.kept.0) refl
+ended-is false seen text g = rw (← g.kept, le-true (length text) MOST g.fits) refl
+
+blank-is : (b : Bool) (text : List ℕ) → cond b [] (unended ∷ []) ≡ pieces_given (cond b kinds.End kinds.Unended) text
+blank-is true text = refl
+blank-is false text = refl
+
+rest-is : (long : Bool) (seen text : List ℕ) → Gathered seen long text → rest_pieces seen ≡ pieces_given (kind_of (stops.Rest long) text) text
+rest-is true seen text g = rw (le-false (length seen) MOST g.kept.0) refl
+rest-is false seen text g = rw (← g.kept, le-true (length text) MOST g.fits) (blank-is (is_blank text) text)
+
+-- a text and its `;` end one piece, whatever follows
+ends-one : (long : Bool) (seen text xs ys : List ℕ) → Gathered seen long text → xs ≡ (seen ++ 59 ∷ []) ++ ys → Ends (pieces_given (kind_of (stops.Ended long) text) text) xs ys
+ends-one long seen text xs ys g is = record {
+  bytes = seen ++ 59 ∷ [];
+  taken = is;
+  ended = λ more. ap ended_pieces (append_assoc seen (59 ∷ []) more) ∙ ended-cut seen more g.unbroken ∙ ap (λ ps. ps ++ ended_pieces more) (ended-is long seen text g);
+}
+
+-- what a stop says of told bytes
+record Told (stop : Stop) (xs : List ℕ) (after : Option (List ℕ)) (text : List ℕ) (before now : ℕ) : Type 0 where
+  ys : List ℕ
+  some : after ≡ Some ys
+  pieces : pieces_of xs ≡ pieces_given (kind_of stop text) text ++ pieces_of ys
+  taken : now + length ys ≡ before + length xs
+  end : is_rest stop ≡ true → ys ≡ []
+  ends : is_rest stop ≡ false → Ends (pieces_given (kind_of stop text) text) xs ys
+
+cut-told : (stop : Stop) (xs : List ℕ) (after : Option (List ℕ)) (text : List ℕ) (before now : ℕ) → Stopped stop (Some xs) after text before now → kind_of stop text ≢ kinds.Limit → Told stop xs after text before now
+cut-told (stops.Ended long) xs None text before now s n = absurd s.2
+cut-told (stops.Ended long) xs (Some ys) text before now s n =
+    let whole : xs ≡ s.0 ++ 59 ∷ ys = s.2 ∙ append_assoc s.0 (59 ∷ []) ys in
+    let pieces : pieces_of xs ≡ ended_piece s.0 ∷ pieces_of ys = ap pieces_of whole ∙ pieces-cut s.0 ys s.1.unbroken in
+    record {
+      ys = ys;
+      some = refl;
+      pieces = pieces ∙ ap (λ ps. ps ++ pieces_of ys) (ended-is long s.0 text s.1);
+      taken = omega (arith, s.3, ap length whole, length-append s.0 (59 ∷ ys));
+      end = λ e. absurd (cc);
+      ends = λ e. ends-one long s.0 text xs ys s.1 s.2;
+    }
+cut-told (stops.Rest long) xs None text before now s n = absurd s.2
+cut-told (stops.Rest long) xs (Some ys) text before now s n =
+    let none : ys ≡ [] = s.3 in
+    let whole : xs ≡ s.0 ++ ys = s.2 in
+    let same : xs ≡ s.0 = rw none at whole ∙ append-nil s.0 in
+    let pieces : pieces_of xs ≡ rest_pieces s.0 = ap pieces_of same ∙ pieces-rest s.0 s.1.unbroken in
+    record {
+      ys = ys;
+      some = refl;
+      pieces = rw (none, pieces, rest-is long s.0 text s.1) (sym (append-nil _));
+      taken = omega (arith, s.4, ap length whole, length-append s.0 ys);
+      end = λ e. none;
+      ends = λ e. absurd (cc);
+    }
+cut-told stops.Limit xs after text before now s n = absurd (n refl)
+
+ahead-some : (b : Bool) (held : List ℕ) (left : Option (List ℕ)) (ys : List ℕ) → prepend_known held left ≡ Some ys → (b ≡ true → ys ≡ []) → ahead_of b held left ≡ Some ys
+ahead-some true held left ys e h = ap Some (sym (h refl))
+ahead-some false held left ys e h = e
+
+told-both : {a b : Option (List ℕ)} {xs ys : List ℕ} (P : List ℕ → List ℕ → Type 0) → a ≡ Some xs → b ≡ Some ys → P xs ys → IfTold a b P
+told-both {a} {b} {xs} {ys} P p q h = rw (p, q) h
+
+pub advance-cuts : (k : Kind) (stop : Stop) (old new : Reading) (left left' : Option (List ℕ)) → old.ended ≡ false → new.ended ≡ is_rest stop → k ≡ kind_of stop new.text → Stopped stop (prepend_known old.held left) (prepend_known new.held left') new.text old.taken new.taken → k ≢ kinds.Limit → IfTold (ahead old left) (ahead new left') (Cuts k old new)
+advance-cuts k stop old new None left' live over is s n = rw live tt
+advance-cuts k stop old new (Some bytes) left' live over is s n =
+    let told : Told stop (old.held ++ bytes) (prepend_known new.held left') new.text old.taken new.taken = cut-told stop _ _ _ _ _ s (λ e. n (is ∙ e)) in
+    let now : ahead new left' ≡ Some told.ys = ap (λ b. ahead_of b new.held left') over ∙ ahead-some (is_rest stop) new.held left' told.ys told.some told.end in
+    let before : ahead old (Some bytes) ≡ Some (old.held ++ bytes) = ap (λ b. ahead_of b old.held (Some bytes)) live in
+    told-both (Cuts k old new) before now (record {
+      pieces = told.pieces ∙ ap (λ each. pieces_given each new.text ++ pieces_of told.ys) (sym is);
+      taken = told.taken;
+      ended = λ e. subst (λ each. Ends (pieces_given each new.text) (old.held ++ bytes) told.ys) (sym is) (told.ends (sym over ∙ e));
+    })
+
+some-piece : (k : Kind) (text : List ℕ) → k ≢ kinds.End → k ≢ kinds.Limit → (ps : List Piece) → 0 < length (pieces_given k text ++ ps)
+some-piece kinds.Statement text e l ps = omega arith
+some-piece kinds.TooLong text e l ps = omega arith
+some-piece kinds.Unended text e l ps = omega arith
+some-piece kinds.End text e l ps = absurd (e refl)
+some-piece kinds.Limit text e l ps = absurd (l refl)
+
+over-bytes : (xs : List ℕ) (after : Option (List ℕ)) (text : List ℕ) (before now : ℕ) → Stopped stops.Limit (Some xs) after text before now → 2 ^ 32 < before + length xs
+over-bytes xs None text before now s = absurd s.0.2
+over-bytes xs (Some ys) text before now s = omega (arith, s.0.3, s.1, s.2, ap length s.0.2, length-append s.0.0 ys)
+
+none-more : (xs : List ℕ) (after : Option (List ℕ)) (text : List ℕ) (before now : ℕ) → Stopped stops.Limit (Some xs) after text before now → (rest : List ℕ) × EndsNone xs rest × (before + length xs ≡ 2 ^ 32 + length rest)
+none-more xs None text before now s = absurd s.0.2
+none-more xs (Some ys) text before now s = (ys, record { bytes = s.0.0; taken = s.0.2; none = ended-none s.0.0 s.0.1 }, omega (arith, s.0.3, s.2, ap length s.0.2, length-append s.0.0 ys))
+
+blank-limit : (b : Bool) → cond b kinds.End kinds.Unended ≡ kinds.Limit → ⊥
+blank-limit true e = cc
+blank-limit false e = cc
+
+pub counted-is : (k result : Kind) (before now : ℕ) → Counted k result before now → result ≢ kinds.Limit → result ≡ k
+counted-is k result before now (inl p) n = p.0
+counted-is k result before now (inr p) n = absurd (n p.0)
+
+-- the only stop that is answered as the limit
+limit-is : (stop : Stop) (text : List ℕ) → kind_of stop text ≡ kinds.Limit → stop ≡ stops.Limit
+limit-is (stops.Ended true) text e = absurd (cc)
+limit-is (stops.Ended false) text e = absurd (cc)
+limit-is (stops.Rest true) text e = absurd (cc)
+limit-is (stops.Rest false) text e = absurd (blank-limit (is_blank text) e)
+limit-is stops.Limit text e = refl
+
+pub advance-limit : (result : Kind) (stop : Stop) (old : Reading) (left after : Option (List ℕ)) (text : List ℕ) (now count count' : ℕ) → old.ended ≡ false → old.pieces ≡ count → Counted (kind_of stop text) result count count' → Stopped stop (prepend_known old.held left) after text old.taken now → result ≡ kinds.Limit → IfSome (ahead old left) (PassesLimit old)
+advance-limit result stop old None after text now count count' live same c s e = rw live tt
+advance-limit result stop old (Some bytes) after text now count count' live same (inl p) s e =
+    let is : stop ≡ stops.Limit = limit-is stop text (sym p.0 ∙ e) in
+    rw live (inr (over-bytes _ after text _ now (rw is at s)))
+advance-limit result stop old (Some bytes) after text now count count' live same (inr p) s e =
+    let told : Told stop (old.held ++ bytes) after text old.taken now = cut-told stop _ _ _ _ _ s p.2 in
+    rw live (inl (same ∙ p.3, rw told.pieces (some-piece (kind_of stop text) text p.1 p.2 _)))
+
+pub advance-gives : (result : Kind) (stop : Stop) (old : Reading) (left after : Option (List ℕ)) (text : List ℕ) (now count count' : ℕ) → old.ended ≡ false → old.pieces ≡ count → Counted (kind_of stop text) result count count' → Stopped stop (prepend_known old.held left) after text old.taken now → result ≡ kinds.Limit → IfSome (ahead old left) (GivesAll old)
+advance-gives result stop old None after text now count count' live same c s e = rw live tt
+advance-gives result stop old (Some bytes) after text now count count' live same (inl p) s e =
+    let is : stop ≡ stops.Limit = limit-is stop text (sym p.0 ∙ e) in
+    rw live (inr (none-more _ after text _ now (rw is at s)))
+advance-gives result stop old (Some bytes) after text now count count' live same (inr p) s e = rw live (inl (same ∙ p.3))
+
+pub advance-breaks : (old new : Reading) (left left' : Option (List ℕ)) → old.ended ≡ false → new.held ≡ [] → Uncut (prepend_known old.held left) (prepend_known new.held left') old.taken new.taken → IfTold (ahead old left) left' (Breaks old new)
+advance-breaks old new None left' live none u = rw live tt
+advance-breaks old new (Some bytes) None live none u = absurd u.2
+advance-breaks old new (Some bytes) (Some ys) live none u =
+    let taken : old.held ++ bytes ≡ u.0 ++ ys = u.2 ∙ ap (λ held. u.0 ++ (held ++ ys)) none in
+    rw live (record {
+      taken = omega (arith, u.3, ap length taken, length-append u.0 ys);
+      none = record { bytes = u.0; taken = taken; none = ended-none u.0 u.1 };
+    })

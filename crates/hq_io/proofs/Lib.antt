@@ -1,0 +1,6 @@
+pub mod Gathering
+pub mod Cutting
+pub mod Planning
+pub mod Chunks
+pub mod Given
+mod Rows

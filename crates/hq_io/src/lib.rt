@@ -1,0 +1,29 @@
+//! Sources and sinks, and the pieces of what a source gives.
+#![tactic(auto)]
+
+mod chunk;
+mod file_fault;
+mod file_sink;
+mod file_source;
+mod gather;
+mod held;
+mod kind;
+mod label;
+mod memory_sink;
+mod memory_source;
+mod piece;
+mod reader;
+mod traits;
+
+pub use file_sink::FileSink;
+pub use file_source::FileSource;
+pub use kind::Kind;
+pub use label::{Bytes, Label, Opened};
+pub use memory_sink::MemSink;
+pub use memory_source::MemSource;
+pub use piece::Piece;
+pub use reader::{ReadFault, StatementReader};
+pub use traits::{Sink, Source};
+
+#[cfg(test)]
+mod tests;
