@@ -1,0 +1,4 @@
+pub mod FileRun
+pub mod FileStep
+pub mod MemPlan
+pub mod Pieces
