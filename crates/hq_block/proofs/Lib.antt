@@ -1,0 +1,14 @@
+pub mod After
+pub mod BlockLaws
+pub mod Columns
+pub mod Files
+pub mod Flags
+pub mod Front
+pub mod Lengths
+pub mod Numbers
+pub mod Packs
+pub mod RowLaws
+pub mod Rows
+pub mod Utf8
+pub mod Values
+pub mod Worked
