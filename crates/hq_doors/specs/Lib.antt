@@ -1,0 +1,4 @@
+pub mod Doors
+pub mod FileNames
+pub mod Memory
+pub mod Words
