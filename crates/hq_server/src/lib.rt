@@ -1,0 +1,20 @@
+//! Sessions: from the bytes that come in to the bytes that go out.
+#![tactic(auto)]
+
+mod database;
+mod files;
+mod numbers;
+mod run;
+mod session;
+mod table;
+mod why;
+
+pub use hq_doors::{
+    Command, Doors, FileName, FilePlan, MemDoors, Opening, Parts, WordFault, read_words,
+};
+pub use run::{RunEnd, SessionEnd, run_alone};
+pub use session::serve_alone;
+pub use why::EndWhy;
+
+#[cfg(test)]
+mod tests;
