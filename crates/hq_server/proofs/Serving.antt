@@ -10,8 +10,8 @@ use Rattle.hq_io.specs.Pieces.{Piece, pieces_of, ended_pieces}
 use Rattle.hq_io.specs.Reading.{Reading, ahead, pieces_given, Ends, EndsNone, Cuts, Breaks, PassesLimit, GivesAll}
 use Rattle.hq_reply.specs.declared.reply.Reply.{Reply}
 use Rattle.hq_server.specs.Tables.{Table}
-use Rattle.hq_server.specs.Course.{Moment, Course, reply_to, tables_after, text_of, reply_at, going_on, course, pieces_in, Wrote, Answers}
-use Rattle.hq_server.specs.Ending.{IsOverLimit, WroteGiven, WrotePart, WroteWithin, Ended, Served}
+use Rattle.hq_server.specs.Course.{Moment, Course, reply_to, tables_after, text_of, reply_at, going_on, course, pieces_in, Transcript, Answers}
+use Rattle.hq_server.specs.Ending.{IsOverLimit, TranscriptGiven, TranscriptWithin, ServesOnto, Ended, Served}
 use Rattle.hq_server.specs.declared.why.EndWhy.TheVariants as whys
 
 abbrev Appends : Option (List ℕ) → Option (List ℕ) → List ℕ → Type 0
@@ -107,10 +107,14 @@ serve-more (Some xs) (Some ys) (Some zs) first now next tables tables' kind old 
     let one = one-piece kind new.text e l in
     more-told first now next tables tables' kind old new xs ys zs one.0 reply one.1 live p (subst (λ g. Answers g tables reply tables') one.1 w) v s c
 
+-- the bytes of the replies so far
+abbrev Written : List Moment → List ℕ
+Written moments = (course moments).written
+
 -- the input was read to its end
-end-told : (first now : Option (List ℕ)) (tables : List Table) (old new : Reading) (whole before : List ℕ) → Served first now tables old whole before → Cuts kinds.End old new before [] → Wrote first now (pieces_of whole)
+end-told : (first now : Option (List ℕ)) (tables : List Table) (old new : Reading) (whole before : List ℕ) (s : Served first now tables old whole before) → Cuts kinds.End old new before [] → Transcript (pieces_of whole) (Written s.moments)
 end-told first now tables old new whole before s c =
-    (s.moments, sym (s.pieces ∙ ap (λ r. pieces_in s.moments ++ r) c.pieces ∙ append-nil (pieces_in s.moments)), s.written)
+    (s.moments, sym (s.pieces ∙ ap (λ r. pieces_in s.moments ++ r) c.pieces ∙ append-nil (pieces_in s.moments)), refl)
 
 end-within : (first now : Option (List ℕ)) (tables : List Table) (old new : Reading) (whole before : List ℕ) → old.pieces ≤ 100000 → new.taken ≤ 2 ^ 32 → Served first now tables old whole before → Cuts kinds.End old new before [] → IsOverLimit whole → ⊥
 end-within first now tables old new whole before few short s c (inl more) =
@@ -123,24 +127,26 @@ ahead-over reader left e = rw e refl
 pub Ended-end : (whole a left left' first now : Option (List ℕ)) (tables : List Table) (old new : Reading) → new.ended ≡ true → old.pieces ≤ 100000 → new.taken ≤ 2 ^ 32
     → IfTold whole a (Served first now tables old) → IfTold a (ahead new left') (Cuts kinds.End old new) → Ended whys.End whole left first now
 Ended-end whole a left left' first now tables old new over few short s c = record {
-  end = λ _. fst whole a s (subst (λ o. IfTold a o (Cuts kinds.End old new)) (ahead-over new left' over) c);
-  within = λ _. snd whole a s (subst (λ o. IfTold a o (Cuts kinds.End old new)) (ahead-over new left' over) c);
-  source = λ e. absurd (cc);
-  sink = λ e. absurd (cc);
-  limit = λ e. absurd (cc);
-  limited = λ e. absurd (cc);
+  served = by whole a s (subst (λ o. IfTold a o (Cuts kinds.End old new)) (ahead-over new left' over) c);
   memory = λ e. absurd (cc);
 }
   where
-    fst : (whole a : Option (List ℕ)) → IfTold whole a (Served first now tables old) → IfTold a (Some []) (Cuts kinds.End old new) → IfSome whole (λ input. Wrote first now (pieces_of input))
-    fst None a s c = tt
-    fst (Some xs) None s c = absurd s
-    fst (Some xs) (Some ys) s c = end-told first now tables old new xs ys s c
-
-    snd : (whole a : Option (List ℕ)) → IfTold whole a (Served first now tables old) → IfTold a (Some []) (Cuts kinds.End old new) → IfSome whole (λ input. IsOverLimit input → ⊥)
-    snd None a s c = tt
-    snd (Some xs) None s c = absurd s
-    snd (Some xs) (Some ys) s c = end-within first now tables old new xs ys few short s c
+    by : (whole a : Option (List ℕ)) → IfTold whole a (Served first now tables old) → IfTold a (Some []) (Cuts kinds.End old new) → IfSome whole (ServesOnto whys.End left first now)
+    by None a s c = tt
+    by (Some xs) None s c = absurd s
+    by (Some xs) (Some ys) s c = (
+      Written s.moments,
+      s.written,
+      record {
+        end = λ _. end-told first now tables old new xs ys s c;
+        within = λ _. end-within first now tables old new xs ys few short s c;
+        source = λ e. absurd (cc);
+        sink = λ e. absurd (cc);
+        limit = λ e. absurd (cc);
+        limited = λ e. absurd (cc);
+        memory = λ e. absurd (cc);
+      },
+    )
 
 -- bytes that end no piece behind those that end some
 given-more : (ps : List Piece) (whole before after : List ℕ) → Ends ps whole before → EndsNone before after → (given : List ℕ) × (whole ≡ given ++ after) × (ended_pieces given ≡ ps)
@@ -150,98 +156,134 @@ given-more ps whole before after p n = (
   p.ended n.bytes ∙ ap (λ r. ps ++ r) n.none ∙ append-nil ps,
 )
 
+source-told : (first now : Option (List ℕ)) (tables : List Table) (old new : Reading) (whole before after : List ℕ) → old.ended ≡ false → (s : Served first now tables old whole before) → Breaks old new before after → TranscriptGiven (Written s.moments) whole after
+source-told first now tables old new whole before after live s b =
+    let g = given-more (pieces_in s.moments) whole before after (s.ends live) b.none in
+    (g.0, g.1, (s.moments, sym g.2, refl))
+
 pub Ended-source : (whole a left first now : Option (List ℕ)) (tables : List Table) (old new : Reading) → old.ended ≡ false → IfTold whole a (Served first now tables old) → IfTold a left (Breaks old new) → Ended whys.SourceFault whole left first now
 Ended-source whole a left first now tables old new live s b = record {
-  end = λ e. absurd (cc);
-  within = λ e. absurd (cc);
-  source = λ _. by whole a left s b;
-  sink = λ e. absurd (cc);
-  limit = λ e. absurd (cc);
-  limited = λ e. absurd (cc);
+  served = by whole a left s b;
   memory = λ e. absurd (cc);
 }
   where
-    by : (whole a left : Option (List ℕ)) → IfTold whole a (Served first now tables old) → IfTold a left (Breaks old new) → IfTold whole left (WroteGiven first now)
+    by : (whole a left : Option (List ℕ)) → IfTold whole a (Served first now tables old) → IfTold a left (Breaks old new) → IfSome whole (ServesOnto whys.SourceFault left first now)
     by None a left s b = tt
     by (Some xs) None left s b = absurd s
     by (Some xs) (Some ys) None s b = absurd b
-    by (Some xs) (Some ys) (Some zs) s b =
-        let g = given-more (pieces_in s.moments) xs ys zs (s.ends live) b.none in
-        (g.0, g.1, (s.moments, sym g.2, s.written))
+    by (Some xs) (Some ys) (Some zs) s b = (
+      Written s.moments,
+      s.written,
+      record {
+        end = λ e. absurd (cc);
+        within = λ e. absurd (cc);
+        source = λ _. source-told first now tables old new xs ys zs live s b;
+        sink = λ e. absurd (cc);
+        limit = λ e. absurd (cc);
+        limited = λ e. absurd (cc);
+        memory = λ e. absurd (cc);
+      },
+    )
+
+limit-over : (first now : Option (List ℕ)) (tables : List Table) (old : Reading) (whole before : List ℕ) → Served first now tables old whole before → PassesLimit old before → IsOverLimit whole
+limit-over first now tables old whole before s (inl l) = inl (omega (arith, s.count, length-pieces_in s.moments, ap length s.pieces, length-append (pieces_in s.moments) (pieces_of before), l.0, l.1))
+limit-over first now tables old whole before s (inr l) = inr (omega (arith, s.bytes, l))
+
+limit-told : (first now : Option (List ℕ)) (tables : List Table) (old : Reading) (whole before : List ℕ) → old.ended ≡ false → (s : Served first now tables old whole before) → GivesAll old before → TranscriptWithin whole (Written s.moments)
+limit-told first now tables old whole before live s (inl g) = inl (pieces_in s.moments, pieces_of before, s.pieces, length-pieces_in s.moments ∙ s.count ∙ g, (s.moments, refl, refl))
+limit-told first now tables old whole before live s (inr (after, n, long)) =
+    let g = given-more (pieces_in s.moments) whole before after (s.ends live) n in
+    inr (g.0, after, g.1, omega (arith, s.bytes, long, ap length g.1, length-append g.0 after), (s.moments, sym g.2, refl))
 
 pub Ended-limit : (whole a left first now : Option (List ℕ)) (tables : List Table) (old : Reading) → old.ended ≡ false → IfTold whole a (Served first now tables old) → IfSome a (PassesLimit old) → IfSome a (GivesAll old) → Ended whys.InputLimit whole left first now
 Ended-limit whole a left first now tables old live s l g = record {
-  end = λ e. absurd (cc);
-  within = λ e. absurd (cc);
-  source = λ e. absurd (cc);
-  sink = λ e. absurd (cc);
-  limit = λ _. over whole a s l;
-  limited = λ _. all whole a s g;
+  served = by whole a s l g;
   memory = λ e. absurd (cc);
 }
   where
-    over : (whole a : Option (List ℕ)) → IfTold whole a (Served first now tables old) → IfSome a (PassesLimit old) → IfSome whole IsOverLimit
-    over None a s l = tt
-    over (Some xs) None s l = absurd s
-    over (Some xs) (Some ys) s (inl l) = inl (omega (arith, s.count, length-pieces_in s.moments, ap length s.pieces, length-append (pieces_in s.moments) (pieces_of ys), l.0, l.1))
-    over (Some xs) (Some ys) s (inr l) = inr (omega (arith, s.bytes, l))
-
-    all : (whole a : Option (List ℕ)) → IfTold whole a (Served first now tables old) → IfSome a (GivesAll old) → IfSome whole (WroteWithin first now)
-    all None a s g = tt
-    all (Some xs) None s g = absurd s
-    all (Some xs) (Some ys) s (inl g) = inl (pieces_in s.moments, pieces_of ys, s.pieces, length-pieces_in s.moments ∙ s.count ∙ g, (s.moments, refl, s.written))
-    all (Some xs) (Some ys) s (inr (after, n, long)) =
-        let g = given-more (pieces_in s.moments) xs ys after (s.ends live) n in
-        inr (g.0, after, g.1, omega (arith, s.bytes, long, ap length g.1, length-append g.0 after), (s.moments, sym g.2, s.written))
+    by : (whole a : Option (List ℕ)) → IfTold whole a (Served first now tables old) → IfSome a (PassesLimit old) → IfSome a (GivesAll old) → IfSome whole (ServesOnto whys.InputLimit left first now)
+    by None a s l g = tt
+    by (Some xs) None s l g = absurd s
+    by (Some xs) (Some ys) s l g = (
+      Written s.moments,
+      s.written,
+      record {
+        end = λ e. absurd (cc);
+        within = λ e. absurd (cc);
+        source = λ e. absurd (cc);
+        sink = λ e. absurd (cc);
+        limit = λ _. limit-over first now tables old xs ys s l;
+        limited = λ _. limit-told first now tables old xs ys live s g;
+        memory = λ e. absurd (cc);
+      },
+    )
 
 -- a reply of which a prefix was written
-part-told : {E : Type 0} (first now next : Option (List ℕ)) (tables tables' : List Table) (kind : Kind) (old new : Reading) (whole before after : List ℕ) (piece : Piece) (reply : Option Reply) (result : Result Unit E)
+part-told : {E : Type 0} (left first now next : Option (List ℕ)) (tables tables' : List Table) (kind : Kind) (old new : Reading) (whole before after : List ℕ) (piece : Piece) (reply : Option Reply) (result : Result Unit E)
     → pieces_given kind new.text ≡ piece ∷ [] → Answers (piece ∷ []) tables reply tables' → WritesPrefix now next result (text_of reply)
-    → Served first now tables old whole before → Cuts kind old new before after → WrotePart first next (pieces_of whole)
-part-told first now next tables tables' kind old new whole before after piece reply result one answered w s c =
+    → Served first now tables old whole before → Cuts kind old new before after → ServesOnto whys.SinkFault left first next whole
+part-told left first now next tables tables' kind old new whole before after piece reply result one answered w s c =
     let b = behind s.moments piece tables tables' reply s.tables_are answered in
-    record {
-      before = s.moments;
-      last = (piece, b.0);
-      later = pieces_of after;
-      pieces_are = s.pieces ∙ ap (λ r. pieces_in s.moments ++ r) (c.pieces ∙ ap (λ g. g ++ pieces_of after) one);
-      prefix = take w.count (text_of reply);
-      rest = drop w.count (text_of reply);
-      reply = ap text_of (sym b.1) ∙ sym (take-append-drop w.count (text_of reply));
-      written = Appends-then first now next (course s.moments).written (take w.count (text_of reply)) s.written w.appended;
-    }
+    let part : List ℕ = take w.count (text_of reply) in (
+      Written s.moments ++ part,
+      Appends-then first now next (Written s.moments) part s.written w.appended,
+      record {
+        end = λ e. absurd (cc);
+        within = λ e. absurd (cc);
+        source = λ e. absurd (cc);
+        sink = λ _. record {
+          before = s.moments;
+          last = (piece, b.0);
+          later = pieces_of after;
+          pieces_are = s.pieces ∙ ap (λ r. pieces_in s.moments ++ r) (c.pieces ∙ ap (λ g. g ++ pieces_of after) one);
+          prefix = part;
+          rest = drop w.count (text_of reply);
+          reply = ap text_of (sym b.1) ∙ sym (take-append-drop w.count (text_of reply));
+          written = refl;
+        };
+        limit = λ e. absurd (cc);
+        limited = λ e. absurd (cc);
+        memory = λ e. absurd (cc);
+      },
+    )
 
 pub Ended-sink : {E : Type 0} (whole a b left first now next : Option (List ℕ)) (tables tables' : List Table) (kind : Kind) (old new : Reading) (reply : Option Reply) (result : Result Unit E)
     → kind ≢ kinds.End → kind ≢ kinds.Limit → Answers (pieces_given kind new.text) tables reply tables' → WritesPrefix now next result (text_of reply)
     → IfTold whole a (Served first now tables old) → IfTold a b (Cuts kind old new) → Ended whys.SinkFault whole left first next
 Ended-sink whole a b left first now next tables tables' kind old new reply result e l w v s c = record {
-  end = λ e. absurd (cc);
-  within = λ e. absurd (cc);
-  source = λ e. absurd (cc);
-  sink = λ _. by whole a b s c;
-  limit = λ e. absurd (cc);
-  limited = λ e. absurd (cc);
+  served = by whole a b s c;
   memory = λ e. absurd (cc);
 }
   where
-    by : (whole a b : Option (List ℕ)) → IfTold whole a (Served first now tables old) → IfTold a b (Cuts kind old new) → IfSome whole (λ input. WrotePart first next (pieces_of input))
+    by : (whole a b : Option (List ℕ)) → IfTold whole a (Served first now tables old) → IfTold a b (Cuts kind old new) → IfSome whole (ServesOnto whys.SinkFault left first next)
     by None a b s c = tt
     by (Some xs) None b s c = absurd s
     by (Some xs) (Some ys) None s c = absurd c
     by (Some xs) (Some ys) (Some zs) s c =
         let one = one-piece kind new.text e l in
-        part-told first now next tables tables' kind old new xs ys zs one.0 reply result one.1 (subst (λ g. Answers g tables reply tables') one.1 w) v s c
+        part-told left first now next tables tables' kind old new xs ys zs one.0 reply result one.1 (subst (λ g. Answers g tables reply tables') one.1 w) v s c
 
-pub Ended-memory : (whole left first : Option (List ℕ)) → Ended whys.NoMemory whole left first first
-Ended-memory whole left first = record {
-  end = λ e. absurd (cc);
-  within = λ e. absurd (cc);
-  source = λ e. absurd (cc);
-  sink = λ e. absurd (cc);
-  limit = λ e. absurd (cc);
-  limited = λ e. absurd (cc);
-  memory = λ _. refl;
+pub Ended-memory : (whole first : Option (List ℕ)) → Ended whys.NoMemory whole whole first first
+Ended-memory whole first = record {
+  served = by whole;
+  memory = λ _. (refl, refl);
 }
+  where
+    by : (whole : Option (List ℕ)) → IfSome whole (ServesOnto whys.NoMemory whole first first)
+    by None = tt
+    by (Some xs) = (
+      [],
+      Appends-none first,
+      record {
+        end = λ e. absurd (cc);
+        within = λ e. absurd (cc);
+        source = λ e. absurd (cc);
+        sink = λ e. absurd (cc);
+        limit = λ e. absurd (cc);
+        limited = λ e. absurd (cc);
+        memory = λ _. (refl, refl);
+      },
+    )
 
 -- a reader that gave another answer than the end has not ended
 pub live-by : {E : Type 0} (ended : Bool) (result : Result Kind E) → (ended ≡ true → result ≡ Ok kinds.End) → result ≢ Ok kinds.End → ended ≡ false

@@ -4,7 +4,6 @@
 --     Transcript pieces bytes           the bytes are the texts of the replies to the pieces, in order
 -- A piece is missed where there was no memory for its statement: its reply says so, and nothing changes.
 use Rattle.std.specs.Prelude.{◌≡◌, ℕ, Bool, List, [], ◌∷◌, ◌++◌, map, fold, Option, Some, None, Result, if◌then◌else◌}
-use Rattle.std.specs.Io.KnownBytes.{append_known}
 use Rattle.hq_io.specs.Told.{WritesPrefix}
 use Rattle.hq_io.specs.Pieces.{Piece, statement, too_long, unended, is_blank}
 use Rattle.hq_forms.specs.Forms.{statement_of}
@@ -54,10 +53,6 @@ course moments = fold going_on (record { written = []; tables = [] }) moments
 
 abbrev pub pieces_in : List Moment → List Piece
 pieces_in moments = map (λ moment. moment.0) moments
-
--- a sink's bytes grew by the texts of the replies to these pieces
-abbrev pub Wrote : Option (List ℕ) → Option (List ℕ) → List Piece → Type 0
-Wrote first now pieces = (moments : List Moment) × (pieces_in moments ≡ pieces) × (now ≡ append_known first (course moments).written)
 
 -- the bytes are the texts of the replies to these pieces, in order
 abbrev pub Transcript : List Piece → List ℕ → Type 0

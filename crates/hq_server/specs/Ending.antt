@@ -1,12 +1,12 @@
 -- Why a session ended, and what it then wrote.
-use Rattle.std.specs.Prelude.{◌≡◌, ◌⊎◌, ◌+◌, ◌^◌, ◌<◌, ◌≤◌, ℕ, false, List, [], ◌∷◌, ◌++◌, length, Option, IfSome, Result, IfErr}
+use Rattle.std.specs.Prelude.{◌≡◌, ◌⊎◌, ◌+◌, ◌^◌, ◌<◌, ◌≤◌, ℕ, false, List, [], ◌∷◌, ◌++◌, length, Option, Some, IfSome, Result, IfErr}
 use Rattle.std.specs.Io.KnownBytes.{append_known}
 use Rattle.hq_value.specs.Causes.{Rose}
 use Rattle.hq_io.specs.Told.{IfTold}
 use Rattle.hq_io.specs.Pieces.{Piece, pieces_of, ended_pieces}
 use Rattle.hq_io.specs.Reading.{Reading, Ends}
 use Rattle.hq_server.specs.Tables.{Table}
-use Rattle.hq_server.specs.Course.{Moment, course, pieces_in, reply_at, text_of, Wrote, Transcript}
+use Rattle.hq_server.specs.Course.{Moment, course, pieces_in, reply_at, text_of, Transcript}
 use Rattle.hq_server.specs.declared.why.EndWhy.{EndWhy}
 use Rattle.hq_server.specs.declared.why.EndWhy.TheVariants.{End, SourceFault, SinkFault, InputLimit, NoMemory}
 
@@ -14,27 +14,9 @@ use Rattle.hq_server.specs.declared.why.EndWhy.TheVariants.{End, SourceFault, Si
 abbrev pub IsOverLimit : List ℕ → Type 0
 IsOverLimit input = (100000 < length (pieces_of input)) ⊎ (2 ^ 32 < length input)
 
--- the replies to the pieces whose `;` the source gave were written
-abbrev pub WroteGiven : Option (List ℕ) → Option (List ℕ) → List ℕ → List ℕ → Type 0
-WroteGiven first now input left = (given : List ℕ) × (input ≡ given ++ left) × Wrote first now (ended_pieces given)
-
--- the replies before that to some piece were written, and a prefix of its own
-pub record WrotePart (first now : Option (List ℕ)) (pieces : List Piece) : Type 0 where
-  pub before : List Moment
-  pub last : Moment
-  pub later : List Piece
-  pub pieces_are : pieces ≡ pieces_in before ++ last.0 ∷ later
-  pub prefix : List ℕ
-  pub rest : List ℕ
-  pub reply : text_of (reply_at (course before) last) ≡ prefix ++ rest
-  pub written : now ≡ append_known first ((course before).written ++ prefix)
-
--- the replies to the pieces that ended within both limits were written: to 100,000 pieces, or to those whose `;` is among
--- the first 4,294,967,296 bytes
-abbrev pub WroteWithin : Option (List ℕ) → Option (List ℕ) → List ℕ → Type 0
-WroteWithin first now input =
-    ((pieces later : List Piece) × (pieces_of input ≡ pieces ++ later) × (length pieces ≡ 100000) × Wrote first now pieces)
-    ⊎ ((given more : List ℕ) × (input ≡ given ++ more) × (length given ≡ 2 ^ 32) × Wrote first now (ended_pieces given))
+-- the bytes are the replies to the pieces whose `;` the source gave
+abbrev pub TranscriptGiven : List ℕ → List ℕ → List ℕ → Type 0
+TranscriptGiven bytes input left = (given : List ℕ) × (input ≡ given ++ left) × Transcript (ended_pieces given) bytes
 
 -- the bytes are the replies before that to some piece, and a prefix of its own
 pub record TranscriptPart (pieces : List Piece) (bytes : List ℕ) : Type 0 where
@@ -54,29 +36,29 @@ TranscriptWithin input bytes =
     ((pieces later : List Piece) × (pieces_of input ≡ pieces ++ later) × (length pieces ≡ 100000) × Transcript pieces bytes)
     ⊎ ((given more : List ℕ) × (input ≡ given ++ more) × (length given ≡ 2 ^ 32) × Transcript (ended_pieces given) bytes)
 
--- What a session wrote for its input, by why it ended.
+-- What a session wrote for its input, by why it ended, over a source that then has these bytes left.
 pub record Serves (why : EndWhy) (input bytes : List ℕ) (left : Option (List ℕ)) : Type 0 where
   -- at the end of the input just the replies to its pieces
   pub end : why ≡ End → Transcript (pieces_of input) bytes
   pub within : why ≡ End → IsOverLimit input → ⊥
   -- where the source failed, those to the pieces whose `;` it gave
-  pub source : why ≡ SourceFault → IfSome left (λ rest. (given : List ℕ) × (input ≡ given ++ rest) × Transcript (ended_pieces given) bytes)
+  pub source : why ≡ SourceFault → IfTold (Some input) left (TranscriptGiven bytes)
   -- where the sink failed, those before that to some piece, and a prefix of its own
   pub sink : why ≡ SinkFault → TranscriptPart (pieces_of input) bytes
   pub limit : why ≡ InputLimit → IsOverLimit input
   pub limited : why ≡ InputLimit → TranscriptWithin input bytes
-  pub memory : why ≡ NoMemory → bytes ≡ []
+  -- without memory nothing, before the first piece was read
+  pub memory : why ≡ NoMemory → (bytes ≡ []) × (left ≡ Some input)
+
+-- what a session wrote for its input stands behind what its sink was given before
+abbrev pub ServesOnto : EndWhy → Option (List ℕ) → Option (List ℕ) → Option (List ℕ) → List ℕ → Type 0
+ServesOnto why left first now input = (bytes : List ℕ) × (now ≡ append_known first bytes) × Serves why input bytes left
 
 -- Why a session ended, over a source that first had and now has left, and a sink that was first given and now has these.
 pub record Ended (why : EndWhy) (whole left first now : Option (List ℕ)) : Type 0 where
-  -- at the end of the input the sink has just the replies to its pieces
-  pub end : why ≡ End → IfSome whole (λ input. Wrote first now (pieces_of input))
-  pub within : why ≡ End → IfSome whole (λ input. IsOverLimit input → ⊥)
-  pub source : why ≡ SourceFault → IfTold whole left (WroteGiven first now)
-  pub sink : why ≡ SinkFault → IfSome whole (λ input. WrotePart first now (pieces_of input))
-  pub limit : why ≡ InputLimit → IfSome whole IsOverLimit
-  pub limited : why ≡ InputLimit → IfSome whole (WroteWithin first now)
-  pub memory : why ≡ NoMemory → now ≡ first
+  pub served : IfSome whole (ServesOnto why left first now)
+  -- without memory nothing was read and nothing written, also where the bytes are not told
+  pub memory : why ≡ NoMemory → (now ≡ first) × (left ≡ whole)
 
 -- the replies so far, and what is still to be cut
 pub record Served (first now : Option (List ℕ)) (tables : List Table) (reader : Reading) (whole rest : List ℕ) : Type 0 where

@@ -29,10 +29,11 @@ end_text SinkFault = codes "session 1: sink fault\n"
 end_text InputLimit = codes "session 1: input limit\n"
 end_text NoMemory = codes "hawq: out of memory\n"
 
--- the status, by why the session ended; without a session it is 2, 3 or 5
+-- the status, by why the one session ended; without a session it is 2, 3 or 5
 abbrev pub IsStatus : ℕ → List EndWhy → Type 0
 IsStatus status [] = (status ≡ 2) ⊎ ((status ≡ 3) ⊎ (status ≡ 5))
-IsStatus status (why ∷ whys) = status ≡ status_of why
+IsStatus status (why ∷ []) = status ≡ status_of why
+IsStatus status (why ∷ more ∷ whys) = ⊥
 
 -- what the console shows
 abbrev pub console_text : ℕ → List EndWhy → List ℕ
