@@ -1,7 +1,7 @@
 -- The pieces of an input, cut once.
-use Rattle.std.proofs.Common.{◌≡◌, ◌≢◌, ◌+◌, ◌<◌, ◌≤◌, ℕ, Bool, true, false, cond, List, [], ◌∷◌, ◌++◌, length, nat_le, None, Some, refl, ap, sym, ◌∙◌, append_assoc, append-nil, arith, eqb}
+use Rattle.std.proofs.Common.{◌≡◌, ◌≢◌, ◌+◌, ◌<◌, ◌≤◌, ℕ, Bool, true, false, cond, List, [], ◌∷◌, ◌++◌, length, nat_le, None, Some, refl, ap, sym, ◌∙◌, append_assoc, append-nil, arith}
 use Rattle.std.proofs.lemmas.Bool.Decides.{nat_tests}
-use Rattle.hq_io.specs.Pieces.{texts, onto_first, pieces_of, ended_pieces, ended_piece, rest_pieces, Piece, unended, MOST}
+use Rattle.hq_io.specs.Pieces.{behind, ends_piece, texts, texts_from, onto_first, pieces_of, ended_pieces, ended_piece, rest_pieces, Piece, unended, MOST}
 use Rattle.std.proofs.Common.{◌^◌, IfSome, inl, inr, subst, length-append}
 use Rattle.std.specs.declared.option.Option.{Option}
 use Rattle.std.specs.Io.KnownBytes.{prepend_known}
@@ -13,36 +13,34 @@ use Rattle.hq_io.specs.Told.{IfTold}
 use Rattle.hq_io.specs.Counted.{Counted}
 use Rattle.hq_io.specs.Pieces.{is_blank}
 use Rattle.hq_io.specs.Reading.{Reading, ahead, ahead_of, pieces_given, Cuts, PassesLimit, GivesAll, Ends, EndsNone, Breaks}
-use Rattle.hq_io.specs.Gathering.{Unbroken, Gathered, Stopped, Uncut, kind_of, is_rest}
+use Rattle.hq_io.specs.Scanning.{Passes, is_outside}
+use Rattle.hq_io.specs.Gathering.{Gathered, GatheredOutside, EndsNoPiece, Stopped, Uncut, kind_of, is_rest}
+use Rattle.hq_io.specs.declared.place.Place.{Place}
+use Rattle.hq_io.specs.declared.place.Place.TheVariants as places
+use Rattle.hq_io.specs.declared.scan.Spot.{Spot}
+use Rattle.hq_io.specs.declared.scan.Spot.TheVariants as spots
+use Rattle.hq_io.proofs.Scanning.{texts-cut, texts-rest}
 
 onto_first-some : (b : ℕ) (ts : List (List ℕ)) → (first : List ℕ) × (more : List (List ℕ)) × (onto_first b ts ≡ first ∷ more)
 onto_first-some b [] = (b ∷ [], [], refl)
 onto_first-some b (t ∷ ts) = (b ∷ t, ts, refl)
 
 -- the texts of an input are never none
-pub texts-some : (xs : List ℕ) → (first : List ℕ) × (more : List (List ℕ)) × (texts xs ≡ first ∷ more)
-texts-some [] = ([], [], refl)
-texts-some (b ∷ bs) = elim (eqb b 59) as (λ v. (first : List ℕ) × (more : List (List ℕ)) × (cond v ([] ∷ texts bs) (onto_first b (texts bs)) ≡ first ∷ more)) [ true ↦ ([], texts bs, refl) | false ↦ onto_first-some b (texts bs) ]
+pub texts-some : (at : Place) (xs : List ℕ) → (first : List ℕ) × (more : List (List ℕ)) × (texts_from at xs ≡ first ∷ more)
+texts-some at [] = ([], [], refl)
+texts-some at (b ∷ bs) = elim (ends_piece at b) as (λ v. (first : List ℕ) × (more : List (List ℕ)) × (cond v ([] ∷ texts bs) (onto_first b (texts_from (behind at b bs) bs)) ≡ first ∷ more)) [ true ↦ ([], texts bs, refl) | false ↦ onto_first-some b (texts_from (behind at b bs) bs) ]
 
-pub texts-cut : (seen rest : List ℕ) → Unbroken seen → texts (seen ++ 59 ∷ rest) ≡ seen ∷ texts rest
-texts-cut [] rest u = refl
-texts-cut (b ∷ bs) rest u = let n : b ≢ 59 = u.0 in let e : texts (bs ++ 59 ∷ rest) ≡ bs ∷ texts rest = texts-cut bs rest u.1 in grind (arith, nat_tests)
+pub pieces-cut : (seen rest : List ℕ) (to : Spot) → Passes spots.Outside seen to → is_outside to ≡ true → pieces_of (seen ++ 59 ∷ rest) ≡ ended_piece seen ∷ pieces_of rest
+pieces-cut seen rest to p out = let some = texts-some places.Outside rest in let e : texts rest ≡ some.0 ∷ some.1 = some.2 in rw (texts-cut seen rest to p out, e) refl
 
-pub texts-rest : (seen : List ℕ) → Unbroken seen → texts seen ≡ seen ∷ []
-texts-rest [] u = refl
-texts-rest (b ∷ bs) u = let n : b ≢ 59 = u.0 in let e : texts bs ≡ bs ∷ [] = texts-rest bs u.1 in grind (arith, nat_tests)
+pub pieces-rest : (seen : List ℕ) (to : Spot) → Passes spots.Outside seen to → pieces_of seen ≡ rest_pieces seen
+pieces-rest seen to p = rw (texts-rest seen to p) refl
 
-pub pieces-cut : (seen rest : List ℕ) → Unbroken seen → pieces_of (seen ++ 59 ∷ rest) ≡ ended_piece seen ∷ pieces_of rest
-pieces-cut seen rest u = let some = texts-some rest in let e : texts rest ≡ some.0 ∷ some.1 = some.2 in rw (texts-cut seen rest u, e) refl
+pub ended-cut : (seen rest : List ℕ) (to : Spot) → Passes spots.Outside seen to → is_outside to ≡ true → ended_pieces (seen ++ 59 ∷ rest) ≡ ended_piece seen ∷ ended_pieces rest
+ended-cut seen rest to p out = let some = texts-some places.Outside rest in let e : texts rest ≡ some.0 ∷ some.1 = some.2 in rw (texts-cut seen rest to p out, e) refl
 
-pub pieces-rest : (seen : List ℕ) → Unbroken seen → pieces_of seen ≡ rest_pieces seen
-pieces-rest seen u = rw (texts-rest seen u) refl
-
-pub ended-cut : (seen rest : List ℕ) → Unbroken seen → ended_pieces (seen ++ 59 ∷ rest) ≡ ended_piece seen ∷ ended_pieces rest
-ended-cut seen rest u = let some = texts-some rest in let e : texts rest ≡ some.0 ∷ some.1 = some.2 in rw (texts-cut seen rest u, e) refl
-
-pub ended-none : (seen : List ℕ) → Unbroken seen → ended_pieces seen ≡ []
-ended-none seen u = rw (texts-rest seen u) refl
+pub ended-none : (seen : List ℕ) → EndsNoPiece seen → ended_pieces seen ≡ []
+ended-none seen p = rw (texts-rest seen p.to p.passes) refl
 
 le-false : (m n : ℕ) → n < m → nat_le m n ≡ false
 le-false m n h = grind (arith, nat_tests)
@@ -51,24 +49,24 @@ le-true : (m n : ℕ) → m ≤ n → nat_le m n ≡ true
 le-true m n h = grind (arith, nat_tests)
 
 -- the piece that a text gives, by whether it was too long
-ended-is : (long : Bool) (seen text : List ℕ) → Gathered seen long text → ended_piece seen ∷ [] ≡ pieces_given (kind_of (stops.Ended long) text) text
-ended-is true seen text g = rw (le-false (length seen) MOST g.kept.0) refl
-ended-is false seen text g = rw (← g.kept, le-true (length text) MOST g.fits) refl
+ended-is : (long : Bool) (seen text : List ℕ) (to : Spot) → Gathered seen to long text → ended_piece seen ∷ [] ≡ pieces_given (kind_of (stops.Ended long) text) text
+ended-is true seen text to g = rw (le-false (length seen) MOST g.kept.0) refl
+ended-is false seen text to g = rw (← g.kept, le-true (length text) MOST g.fits) refl
 
 blank-is : (b : Bool) (text : List ℕ) → cond b [] (unended ∷ []) ≡ pieces_given (cond b kinds.End kinds.Unended) text
 blank-is true text = refl
 blank-is false text = refl
 
-rest-is : (long : Bool) (seen text : List ℕ) → Gathered seen long text → rest_pieces seen ≡ pieces_given (kind_of (stops.Rest long) text) text
-rest-is true seen text g = rw (le-false (length seen) MOST g.kept.0) refl
-rest-is false seen text g = rw (← g.kept, le-true (length text) MOST g.fits) (blank-is (is_blank text) text)
+rest-is : (long : Bool) (seen text : List ℕ) (to : Spot) → Gathered seen to long text → rest_pieces seen ≡ pieces_given (kind_of (stops.Rest long) text) text
+rest-is true seen text to g = rw (le-false (length seen) MOST g.kept.0) refl
+rest-is false seen text to g = rw (← g.kept, le-true (length text) MOST g.fits) (blank-is (is_blank text) text)
 
 -- a text and its `;` end one piece, whatever follows
-ends-one : (long : Bool) (seen text xs ys : List ℕ) → Gathered seen long text → xs ≡ (seen ++ 59 ∷ []) ++ ys → Ends (pieces_given (kind_of (stops.Ended long) text) text) xs ys
+ends-one : (long : Bool) (seen text xs ys : List ℕ) → GatheredOutside seen long text → xs ≡ (seen ++ 59 ∷ []) ++ ys → Ends (pieces_given (kind_of (stops.Ended long) text) text) xs ys
 ends-one long seen text xs ys g is = record {
   bytes = seen ++ 59 ∷ [];
   taken = is;
-  ended = λ more. ap ended_pieces (append_assoc seen (59 ∷ []) more) ∙ ended-cut seen more g.unbroken ∙ ap (λ ps. ps ++ ended_pieces more) (ended-is long seen text g);
+  ended = λ more. ap ended_pieces (append_assoc seen (59 ∷ []) more) ∙ ended-cut seen more g.0 g.1.passes g.2 ∙ ap (λ ps. ps ++ ended_pieces more) (ended-is long seen text g.0 g.1);
 }
 
 -- what a stop says of told bytes
@@ -84,11 +82,11 @@ cut-told : (stop : Stop) (xs : List ℕ) (after : Option (List ℕ)) (text : Lis
 cut-told (stops.Ended long) xs None text before now s n = absurd s.2
 cut-told (stops.Ended long) xs (Some ys) text before now s n =
     let whole : xs ≡ s.0 ++ 59 ∷ ys = s.2 ∙ append_assoc s.0 (59 ∷ []) ys in
-    let pieces : pieces_of xs ≡ ended_piece s.0 ∷ pieces_of ys = ap pieces_of whole ∙ pieces-cut s.0 ys s.1.unbroken in
+    let pieces : pieces_of xs ≡ ended_piece s.0 ∷ pieces_of ys = ap pieces_of whole ∙ pieces-cut s.0 ys s.1.0 s.1.1.passes s.1.2 in
     record {
       ys = ys;
       some = refl;
-      pieces = pieces ∙ ap (λ ps. ps ++ pieces_of ys) (ended-is long s.0 text s.1);
+      pieces = pieces ∙ ap (λ ps. ps ++ pieces_of ys) (ended-is long s.0 text s.1.0 s.1.1);
       taken = omega (arith, s.3, ap length whole, length-append s.0 (59 ∷ ys));
       end = λ e. absurd (cc);
       ends = λ e. ends-one long s.0 text xs ys s.1 s.2;
@@ -98,11 +96,11 @@ cut-told (stops.Rest long) xs (Some ys) text before now s n =
     let none : ys ≡ [] = s.3 in
     let whole : xs ≡ s.0 ++ ys = s.2 in
     let same : xs ≡ s.0 = rw none at whole ∙ append-nil s.0 in
-    let pieces : pieces_of xs ≡ rest_pieces s.0 = ap pieces_of same ∙ pieces-rest s.0 s.1.unbroken in
+    let pieces : pieces_of xs ≡ rest_pieces s.0 = ap pieces_of same ∙ pieces-rest s.0 s.1.0 s.1.1.passes in
     record {
       ys = ys;
       some = refl;
-      pieces = rw (none, pieces, rest-is long s.0 text s.1) (sym (append-nil _));
+      pieces = rw (none, pieces, rest-is long s.0 text s.1.0 s.1.1) (sym (append-nil _));
       taken = omega (arith, s.4, ap length whole, length-append s.0 ys);
       end = λ e. none;
       ends = λ e. absurd (cc);

@@ -1,3 +1,6 @@
+pub mod Quoting
+pub mod Blanks
+pub mod Scanning
 pub mod Gathering
 pub mod Cutting
 pub mod Planning

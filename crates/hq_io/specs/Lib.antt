@@ -1,7 +1,8 @@
-pub mod Told
-pub mod Memory
-pub mod Pieces
 pub mod Counted
-pub mod Reading
 pub mod Gathering
+pub mod Memory
 pub mod Next
+pub mod Pieces
+pub mod Reading
+pub mod Scanning
+pub mod Told

@@ -1,13 +1,13 @@
-//! The bytes up to the next `;`.
+//! The bytes up to the `;` that ends a piece.
 ghost use Rattle.std.specs.Prelude.{◌≡◌, ◌≤◌, ◌^◌, [], IfOk, OnErr, vec_capacity};
 ghost use Rattle.std.specs.Io.KnownBytes.{prepend_known};
 ghost use Rattle.hq_value.specs.Causes.{HasCause};
-ghost use Rattle.hq_io.specs.Pieces.{is_blank};
 ghost use Rattle.hq_io.specs.Gathering.{Stopped, Uncut};
 
 use crate::chunk::Chunk;
 use crate::held::{Part, take_part};
-use crate::{Kind, Source};
+use crate::scan::Spot;
+use crate::{Kind, Source, is_blank};
 use hq_value::Failed;
 
 /// What ended the bytes: a `;`, the end, or one byte more than an input may have. They may be too long for a piece.
@@ -48,13 +48,7 @@ impl Stop {
     }
 }
 
-fn is_blank(text: &[u8]) -> bool
-    ensures { result ≡ is_blank text.now }
-{
-    text.iter().all(|b| *b == b' ' || *b == b'\t' || *b == b'\n' || *b == b'\r')
-}
-
-/// Takes the bytes up to the next `;`, and keeps as many as a piece may have.
+/// Takes the bytes up to the `;` that ends the piece, and keeps as many as a piece may have.
 pub fn gather<S: Source>(
     chunk: &mut Chunk,
     text: &mut Vec<u8>,
@@ -74,12 +68,16 @@ pub fn gather<S: Source>(
 {
     text.clear();
     let mut long = false;
+    let mut spot = Spot::Outside;
     loop {
         if !chunk.fill(source)? {
             return Ok(Stop::Rest(long));
         }
-        match take_part(chunk, text, long, taken) {
-            Part::Inside(longer) => long = longer,
+        match take_part(chunk, text, long, spot, taken) {
+            Part::Inside(longer, next) => {
+                long = longer;
+                spot = next;
+            }
             Part::Ended(long) => return Ok(Stop::Ended(long)),
             Part::Limit => return Ok(Stop::Limit),
         }

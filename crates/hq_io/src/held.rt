@@ -1,9 +1,10 @@
 //! What the bytes that a reader holds bring to the text of a piece.
 ghost use Rattle.std.specs.Prelude.{◌≡◌, ◌≢◌, ◌≤◌, ◌<◌, ◌+◌, ◌^◌, ◌++◌, ℕ, List, length, MatchOption, vec_capacity};
-ghost use Rattle.hq_io.specs.Gathering.{Unbroken, FirstEnd, Gathered, TakesPart};
+ghost use Rattle.hq_io.specs.Scanning.{Passes};
+ghost use Rattle.hq_io.specs.Gathering.{Gathered, TakesPart};
 
 use crate::chunk::Chunk;
-use memchr::memchr;
+use crate::scan::{Found, Spot, find_end};
 
 /// The bytes of a piece are at most these.
 pub const MOST: usize = 65_536;
@@ -11,20 +12,13 @@ pub const MOST: usize = 65_536;
 /// The bytes of an input are at most these.
 pub const MOST_BYTES: u64 = 1 << 32;
 
-/// A part inside a text, the end of one at its `;`, or the last byte that an input may have where more follow.
-/// The text may be too long for a piece.
+/// A part inside a piece and the spot behind it, the end of a piece at its `;`, or the last byte that an input may have
+/// where more follow. The piece may be too long.
 #[derive(Clone, Copy, Debug, PartialEq, Eq)]
 pub enum Part {
-    Inside(bool),
+    Inside(bool, Spot),
     Ended(bool),
     Limit,
-}
-
-// Where the first `;` is.
-fn find_end(bytes: &[u8]) -> Option<usize>
-    ensures { MatchOption result (Unbroken bytes.now) (λ at. FirstEnd bytes.now at) }
-{
-    memchr(b';', bytes)
 }
 
 // Adds bytes for which there is room.
@@ -44,8 +38,7 @@ fn append(text: &mut Vec<u8>, bytes: &[u8])
 fn keep(text: &mut Vec<u8>, long: bool, bytes: &[u8]) -> bool
     requires room { 65536 ≤ vec_capacity text.old }
     requires fits { length text.old.items ≤ 65536 }
-    requires inside { Unbroken bytes.now }
-    ensures gathered { (seen : List ℕ) → Gathered seen long text.old.items → Gathered (seen ++ bytes.now) result text.new.items }
+    ensures gathered { (seen : List ℕ) (from to : Spot) → Gathered seen from long text.old.items → Passes from bytes.now to → Gathered (seen ++ bytes.now) to result text.new.items }
     ensures room { 65536 ≤ vec_capacity text.new }
 {
     let room = MOST - text.len();
@@ -57,32 +50,42 @@ fn keep(text: &mut Vec<u8>, long: bool, bytes: &[u8]) -> bool
     true
 }
 
-/// Takes the held bytes up to the next `;`, or all of them, and no more than an input may have.
-pub fn take_part(chunk: &mut Chunk, text: &mut Vec<u8>, long: bool, taken: &mut u64) -> Part
+/// Takes the held bytes up to the `;` that ends the piece, or all of them, and no more than an input may have.
+pub fn take_part(
+    chunk: &mut Chunk,
+    text: &mut Vec<u8>,
+    long: bool,
+    spot: Spot,
+    taken: &mut u64,
+) -> Part
     requires room { 65536 ≤ vec_capacity text.old }
     requires fits { length text.old.items ≤ 65536 }
     requires taken { taken.old ≤ 2 ^ 32 }
-    ensures part { (seen : List ℕ) → Gathered seen long text.old.items → TakesPart result seen text.new.items chunk.old chunk.new taken.old taken.new }
+    ensures part { (seen : List ℕ) → Gathered seen spot long text.old.items → TakesPart result seen text.new.items chunk.old chunk.new taken.old taken.new }
     ensures room { 65536 ≤ vec_capacity text.new }
     ensures taken { taken.new ≤ 2 ^ 32 }
 {
     let held = chunk.as_slice();
     let most = (MOST_BYTES - *taken) as usize;
     let within = &held[..held.len().min(most)];
-    let Some(at) = find_end(within) else {
-        let more = held.len() > most;
-        let long = keep(text, long, within);
-        let count = within.len();
-        *taken += count as u64;
-        chunk.skip(count);
-        return if more {
-            Part::Limit
-        } else {
-            Part::Inside(long)
-        };
-    };
-    let long = keep(text, long, &within[..at]);
-    *taken += at as u64 + 1;
-    chunk.skip(at + 1);
-    Part::Ended(long)
+    match find_end(within, spot) {
+        Found::Cut(at) => {
+            let long = keep(text, long, &within[..at]);
+            *taken += at as u64 + 1;
+            chunk.skip(at + 1);
+            Part::Ended(long)
+        }
+        Found::Through(spot) => {
+            let more = held.len() > most;
+            let long = keep(text, long, within);
+            let count = within.len();
+            *taken += count as u64;
+            chunk.skip(count);
+            if more {
+                Part::Limit
+            } else {
+                Part::Inside(long, spot)
+            }
+        }
+    }
 }

@@ -52,28 +52,56 @@ fn trace(alloc: Global, source: &mut MemSource) -> Result<Vec<u8>, Fail> {
     Ok(out)
 }
 
+// Inputs and their traces. A `/` stands for a line feed.
+const CASES: &str = "
+ => end
+ \t\r/ => end
+a => unended|end
+; => |end
+a; => a|end
+ab;cd;/ => ab|cd|end
+;; x => ||unended|end
+SELECT 1; ;-- c; => SELECT 1| |end
+'a;b';c; => 'a;b'|c|end
+'it''s;';'';' => 'it''s;'|''|unended|end
+a'';b; => a''|b|end
+-- x;y' /;a; => -- x;y' /|a|end
+--'/';--';/ => --'/';--'|end
+- - ;-;--;/; => - - |-|--;/|end
+'--';--/-- ' => '--'|end
+a--;';/;b'-'; => a--;';/|b'-'|end
+--a/ b;--/; => --a/ b|--/|end
+";
+
+fn with_line_feeds(alloc: Global, text: &str) -> Result<Vec<u8>, Fail> {
+    let mut bytes = text.as_bytes().to_vec(alloc)?;
+    for byte in bytes.iter_mut() {
+        if *byte == b'/' {
+            *byte = b'\n';
+        }
+    }
+    Ok(bytes)
+}
+
 #[test]
 fn pieces_do_not_depend_on_how_a_source_cuts_them(rt: HostRuntime) -> Result<(), Fail> {
     let alloc = rt.alloc();
-    let table: [(&[u8], &[u8]); 8] = [
-        (b"", b"end"),
-        (b" \t\r\n", b"end"),
-        (b"a", b"unended|end"),
-        (b";", b"|end"),
-        (b"a;", b"a|end"),
-        (b"ab;cd;\n", b"ab|cd|end"),
-        (b";; x", b"||unended|end"),
-        (b"SELECT 1; ;-- c;", b"SELECT 1| |-- c|end"),
-    ];
-    for (input, want) in table {
+    let mut cases = 0;
+    for case in CASES.lines() {
+        let Some((input, want)) = case.split_once(" => ") else {
+            continue;
+        };
+        let want = with_line_feeds(alloc, want)?;
+        cases += 1;
         for step in 1..8usize {
-            let bytes = input.to_vec(alloc)?;
+            let bytes = with_line_feeds(alloc, input)?;
             let mut source = MemSource::new(bytes, step, Vec::new(alloc));
             let got = trace(alloc, &mut source)?;
-            assert_eq!(rt; got.as_slice(), want);
+            assert_eq!(rt; got, want, "{input}");
             assert_eq!(rt; source.faults(), 0);
         }
     }
+    assert_eq!(rt; cases, 17);
     Ok(())
 }
 
@@ -91,6 +119,15 @@ fn a_piece_is_too_long_past_its_limit(rt: HostRuntime) -> Result<(), Fail> {
     let mut bytes = repeated(alloc, b' ', 65_537)?;
     bytes.extend_from_slice(b";a;")?;
     let mut source = MemSource::new(bytes, 70_000, Vec::new(alloc));
+    assert_eq!(rt;
+        trace(alloc, &mut source)?.as_slice(),
+        b"long|a|end".as_slice()
+    );
+    // Its quotes count on, so the `;` in its text ends nothing.
+    let mut bytes = b"'".to_vec(alloc)?;
+    bytes.extend_from_slice(&repeated(alloc, b'x', 65_537)?)?;
+    bytes.extend_from_slice(b";';a;")?;
+    let mut source = MemSource::new(bytes, 5_000, Vec::new(alloc));
     assert_eq!(rt;
         trace(alloc, &mut source)?.as_slice(),
         b"long|a|end".as_slice()

@@ -18,7 +18,7 @@ reply_to missed tables (statement text) =
     if is_blank text then None
     else (if missed then Some (Error fault.NoMemory)
     else Some (reply_of tables (statement_of text)))
-reply_to missed tables too_long = Some (Error fault.Syntax)
+reply_to missed tables too_long = Some (Error fault.TooLong)
 reply_to missed tables unended = Some (Error fault.Syntax)
 
 abbrev pub tables_after : Bool → List Table → Piece → List Table

@@ -3,23 +3,16 @@ ghost use Rattle.std.specs.Prelude.{◌≡◌, ◌≤◌, ◌+◌, ℕ, List, No
 ghost use Rattle.std.specs.declared.option.Option.{Option};
 ghost use Rattle.hq_value.specs.Causes.{HasCause};
 ghost use Rattle.hq_io.specs.Told.{IfTold, WritesPrefix};
-ghost use Rattle.hq_io.specs.Pieces.{is_blank};
 ghost use Rattle.hq_io.specs.Reading.{ahead, pieces_given};
 ghost use Rattle.hq_server.specs.Course.{Answers, AnswersInto, text_of};
 ghost use Rattle.hq_server.specs.Ending.{Causes, Ended, MayEnd, Served};
 
 use crate::EndWhy;
 use crate::database::Database;
-use hq_io::{Kind, Sink, Source, StatementReader};
+use hq_io::{Kind, Sink, Source, StatementReader, is_blank};
 use hq_reply::{Fault, Reply, write_reply};
 use hq_value::Failed;
 use std::alloc::Global;
-
-fn is_blank(text: &[u8]) -> bool
-    ensures { result ≡ is_blank text.now }
-{
-    text.iter().all(|b| *b == b' ' || *b == b'\t' || *b == b'\n' || *b == b'\r')
-}
 
 // The reply to a piece; a blank one has none.
 fn reply_to(alloc: Global, database: &mut Database, kind: Kind, text: &[u8]) -> Option<Reply>
@@ -27,7 +20,7 @@ fn reply_to(alloc: Global, database: &mut Database, kind: Kind, text: &[u8]) -> 
 {
     match kind {
         Kind::Statement => statement_reply(alloc, database, text),
-        Kind::TooLong => Some(Reply::Error(Fault::Syntax)),
+        Kind::TooLong => Some(Reply::Error(Fault::TooLong)),
         Kind::Unended => Some(Reply::Error(Fault::Syntax)),
         Kind::End => None,
         Kind::Limit => None,

@@ -11,7 +11,7 @@ invariant-loop-chunk g l = record {
   label : g.S.Source.label l.source ≡ g.S.Source.label l.fn.source;
   faults : g.S.Source.faults l.fn.source ≤ g.S.Source.faults l.source;
   sound : g.S.Source.sound l.fn.source → (g.S.Source.faults l.source ≡ g.S.Source.faults l.fn.source) × g.S.Source.sound l.source;
-  gathered : (seen : List ℕ) × Gathered seen l.long l.text.items × Consumes (prepend_known l.fn.chunk (g.S.Source.left l.fn.source)) (prepend_known l.chunk (g.S.Source.left l.source)) seen × (l.taken ≡ l.fn.taken + length seen);
+  gathered : (seen : List ℕ) × Gathered seen l.spot l.long l.text.items × Consumes (prepend_known l.fn.chunk (g.S.Source.left l.fn.source)) (prepend_known l.chunk (g.S.Source.left l.source)) seen × (l.taken ≡ l.fn.taken + length seen);
 }
 
 abbrev pub decreases-loop-chunk : goal.decreases-loop-chunk
