@@ -1,12 +1,7 @@
 #!/bin/sh
 # Runs the worked script with the first allocation failing, then the second, and so on until none fails, and prints the
 # status and the replies of each run.
-set -e
-top=$(cd "$(dirname "$0")/.." && pwd)
-program="$top/crates/hawq/out/hawq"
-[ -x "$program" ] || (cd "$top/crates/hawq" && rt run >/dev/null)
-work=$(mktemp -d)
-trap 'rm -rf "$work"' EXIT
+. "$(dirname "$0")/setup.sh"
 cat > "$work/fail.c" <<'C'
 #define _GNU_SOURCE
 #include <dlfcn.h>
