@@ -21,7 +21,10 @@ fn main(rt: HostRuntime) -> io::Result<ExitCode> {
     };
     match blocks.run(rt.alloc()) {
         Some(done) => {
-            println!(rt; "{} rows read from blocks of {} bytes", done.rows, done.bytes)?;
+            println!(rt;
+                "{} rows read from blocks of {} bytes",
+                done.rows, done.bytes
+            )?;
             Ok(ExitCode::SUCCESS)
         }
         None => Ok(ExitCode::from(5)),

@@ -83,25 +83,32 @@ fn with_line_feeds(alloc: Global, text: &str) -> Result<Vec<u8>, Fail> {
     Ok(bytes)
 }
 
+// Whether a source that gives so many bytes at once has these pieces.
+fn is_cut_so(alloc: Global, input: &str, step: usize, want: &[u8]) -> Result<bool, Fail> {
+    if step == 0 {
+        return Ok(false);
+    }
+    let bytes = with_line_feeds(alloc, input)?;
+    let mut source = MemSource::new(bytes, step, Vec::new(alloc));
+    let got = trace(alloc, &mut source)?;
+    Ok(got.as_slice() == want && source.faults() == 0)
+}
+
 #[test]
 fn pieces_do_not_depend_on_how_a_source_cuts_them(rt: HostRuntime) -> Result<(), Fail> {
     let alloc = rt.alloc();
-    let mut cases = 0;
+    let mut cases = Vec::new(alloc);
     for case in CASES.lines() {
-        let Some((input, want)) = case.split_once(" => ") else {
-            continue;
-        };
-        let want = with_line_feeds(alloc, want)?;
-        cases += 1;
-        for step in 1..8usize {
-            let bytes = with_line_feeds(alloc, input)?;
-            let mut source = MemSource::new(bytes, step, Vec::new(alloc));
-            let got = trace(alloc, &mut source)?;
-            assert_eq!(rt; got, want, "{input}");
-            assert_eq!(rt; source.faults(), 0);
+        if let Some((input, want)) = case.split_once(" => ") {
+            let want = with_line_feeds(alloc, want)?;
+            for step in 1..8usize {
+                let cut = is_cut_so(alloc, input, step, &want)?;
+                assert!(rt; cut, "{input}");
+            }
+            cases.push(input)?;
         }
     }
-    assert_eq!(rt; cases, 17);
+    assert_eq!(rt; cases.len(), 17);
     Ok(())
 }
 
