@@ -1,0 +1,4 @@
+pub mod Clean
+pub mod Growing
+pub mod Merging
+pub mod StoreCounts

@@ -1,0 +1,14 @@
+-- Each place is with its owner.
+use Rattle.std.proofs.Common.{ap, arith, false, slice_index_or, List, Bool, ◌∙◌}
+use Rattle.hq_lane.proofs.lane.Lane.part.Goals as goal
+
+pub returns-in-Ok-clause-parts : goal.returns-in-Ok-clause-parts
+returns-in-Ok-clause-parts g c =
+    let made = c.in-Ok.ensures in
+    record {
+      sixteen = omega (arith, c.share.new.parts.ok.0, c.share.ensures.sixteen);
+      table = λ n h. c.share.ensures.table n ∙ made.table n h ∙ c.table.ensures;
+      number = λ n h. c.share.ensures.number n ∙ made.number n h ∙ c.number.ensures;
+      owned = λ n b h k. ap (λ (here : List Bool). slice_index_or here b false) (c.share.ensures.here n) ∙ made.owned n b h k;
+      places = λ b h. rw (← c.take_apart-places.ensures.places) (c.share.ensures.moved b h);
+    }

@@ -1,0 +1,15 @@
+-- The places below `i` are flushed, and those from `i` on are as before.
+use Rattle.std.proofs.Common.{◌≡◌, ℕ, ◌<◌, ◌≤◌, length}
+use Rattle.hq_lane.specs.StoreCounts.{GoesOn}
+use Rattle.hq_lane.specs.Places.{IsFlushed, KeepsBytes}
+use Rattle.hq_lane.specs.Lanes.{place_of}
+use Rattle.hq_lane.proofs.places.flush_each.Given as goal
+
+abbrev pub invariant-loop-i : goal.invariant-loop-i
+invariant-loop-i g l = record {
+  sixteen : length l.places.items ≡ 16;
+  flushed : (b : ℕ) → b < l.i → IsFlushed (place_of l.places.items b);
+  kept : (b : ℕ) → b < l.i → KeepsBytes g.F.StoredFile.tells (place_of l.initial.places.items b) (place_of l.places.items b);
+  rest : (b : ℕ) → l.i ≤ b → place_of l.places.items b ≡ place_of l.initial.places.items b;
+  store : GoesOn g.S.Store.faults g.S.Store.given g.S.Store.sound l.initial.store l.store;
+}

@@ -1,0 +1,4 @@
+pub mod Lanes
+pub mod Packing
+pub mod Places
+pub mod StoreCounts

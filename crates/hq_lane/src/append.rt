@@ -1,0 +1,89 @@
+//! Rows appended to a place in blocks.
+ghost use Rattle.std.specs.Prelude.{◌≡◌, ◌<◌, ◌≤◌, ℕ, false, true, All, IsOk, IsNone, OnOk, OnErr, IsErrOf, [], length};
+ghost use Rattle.std.specs.Option.{ForSome};
+ghost use Rattle.hq_value.specs.Causes.{Rose};
+ghost use Rattle.hq_block.specs.Row.{Fits};
+ghost use Rattle.hq_block.specs.Block.{IsBlock, FileRows, block_bytes, block_length, pack};
+ghost use Rattle.hq_lane.specs.StoreCounts.{GoesOn};
+ghost use Rattle.hq_lane.specs.Places.{IsGrown};
+ghost use Rattle.hq_lane.specs.Packing.{GrewByFirst};
+
+use crate::place::Place;
+use hq_block::{EncodeFault, encode_block, fitting_rows};
+use hq_store::{SealCopy, Store, StoreFault, StoredFile};
+use hq_value::{FileId, Kinds, Row};
+use std::alloc::Global;
+
+impl<F: StoredFile, Z: SealCopy> Place<F, Z> {
+    /// Adds rows in blocks of following rows, each taking as many as fit. At a fault whole blocks of the first
+    /// rows stand.
+    pub(crate) fn append_rows<S: Store<File = F, Seal = Z>>(
+        &mut self,
+        alloc: Global,
+        store: &mut S,
+        id: FileId,
+        kinds: &Kinds,
+        rows: &[Row],
+    ) -> Result<(), StoreFault>
+        requires some_kinds { 0 < length kinds.now }
+        requires few_kinds { length kinds.now ≤ 64 }
+        requires whole { self.old.torn ≡ false }
+        requires fit { All (Fits kinds.now) rows.now }
+        ensures packed { OnOk result (IsGrown F.tells self.old (pack kinds.now rows.now) self.new) }
+        ensures file { OnOk result (FileRows kinds.now (pack kinds.now rows.now) rows.now) }
+        ensures whole { OnOk result (self.new.torn ≡ false) }
+        ensures first { OnErr result ((count : ℕ) × GrewByFirst F.tells kinds.now count rows.now self.old self.new) }
+        ensures torn { IsErrOf result StoreFault.Failed → ForSome self.new.file (λ _. self.new.torn ≡ true) }
+        ensures not_torn { IsErrOf result StoreFault.NoMemory → self.new.torn ≡ false }
+        ensures missing { IsNone self.new.file → self.new ≡ self.old }
+        ensures nothing { rows.now ≡ [] → IsOk result × (self.new ≡ self.old) × (store.new ≡ store.old) }
+
+        ensures cause { IsErrOf result StoreFault.Failed → Rose (S.faults store.old) (S.faults store.new) }
+        ensures store { GoesOn S.faults S.given S.sound store.old store.new }
+    {
+        if rows.is_empty() {
+            return Ok(());
+        }
+        let mut done = 0;
+        while done < rows.len() {
+            let rest = &rows[done..];
+            let count = fitting_rows(kinds, rest);
+            self.append_block(alloc, store, id, kinds, &rest[..count])?;
+            done += count;
+        }
+        Ok(())
+    }
+
+    // Adds one block of the rows.
+    fn append_block<S: Store<File = F, Seal = Z>>(
+        &mut self,
+        alloc: Global,
+        store: &mut S,
+        id: FileId,
+        kinds: &Kinds,
+        rows: &[Row],
+    ) -> Result<(), StoreFault>
+        requires some_kinds { 0 < length kinds.now }
+        requires few_kinds { length kinds.now ≤ 64 }
+        requires some_rows { 0 < length rows.now }
+        requires whole { self.old.torn ≡ false }
+        requires fit { All (Fits kinds.now) rows.now }
+        requires room { block_length rows.now ≤ 65536 }
+        ensures grown { OnOk result (IsGrown F.tells self.old (block_bytes kinds.now rows.now) self.new) }
+        ensures block { OnOk result (IsBlock kinds.now rows.now (block_bytes kinds.now rows.now)) }
+        ensures whole { OnOk result (self.new.torn ≡ false) }
+        ensures kept { OnErr result (IsGrown F.tells self.old [] self.new) }
+        ensures torn { IsErrOf result StoreFault.Failed → ForSome self.new.file (λ _. self.new.torn ≡ true) }
+        ensures not_torn { IsErrOf result StoreFault.NoMemory → self.new.torn ≡ false }
+        ensures missing { IsNone self.new.file → self.new ≡ self.old }
+
+        ensures cause { IsErrOf result StoreFault.Failed → Rose (S.faults store.old) (S.faults store.new) }
+        ensures store { GoesOn S.faults S.given S.sound store.old store.new }
+    {
+        match encode_block(alloc, kinds, rows) {
+            Ok(block) => self.append(store, id, &block),
+            Err(EncodeFault::NoMemory) => Err(StoreFault::NoMemory),
+            Err(EncodeFault::TooLarge) => unreachable!(),
+        }
+    }
+}

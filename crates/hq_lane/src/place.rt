@@ -1,0 +1,198 @@
+//! One place of a lane.
+ghost use Rattle.std.specs.Prelude.{◌≡◌, ◌++◌, ◌<◌, ◌≤◌, true, false, [], None, length, option_map, IsTrue, IsNone, OnOk, OnErr, IsErrOf};
+ghost use Rattle.std.specs.Option.{ForSome};
+ghost use Rattle.hq_value.specs.Causes.{Rose};
+ghost use Rattle.hq_lane.specs.StoreCounts.{GoesOn};
+
+use hq_store::{SealCopy, Store, StoreFault, StoredFile};
+use hq_value::{Failed, FileId};
+use std::marker::Model;
+
+/// The file of one bucket. `base` bytes of it are committed, and `good` bytes are whole blocks. Where it is torn
+/// others may follow those.
+#[derive(Drop)]
+pub(crate) struct Place<F: StoredFile, Z: SealCopy> {
+    file: Option<F>,
+    base: u64,
+    good: u64,
+    torn: bool,
+    fresh: Option<Z>,
+}
+
+impl<F: StoredFile, Z: SealCopy> Model for Place<F, Z> {
+    ghost use Rattle.std.specs.Prelude.{option_map};
+    ghost use Rattle.hq_lane.specs.Places.{PlaceState, IsSound};
+
+    ghost Value = { PlaceState };
+
+    ghost view = { λ p. record {
+      file = option_map F.state p.file;
+      base = p.base;
+      good = p.good;
+      torn = p.torn;
+      fresh = option_map Z.state p.fresh;
+    } };
+
+    ghost invariant = { λ p. IsSound F.tells Z.tells (record {
+      file = option_map F.state p.file;
+      base = p.base;
+      good = p.good;
+      torn = p.torn;
+      fresh = option_map Z.state p.fresh;
+    }) };
+}
+
+impl<F: StoredFile, Z: SealCopy> Place<F, Z> {
+    ghost use Rattle.hq_lane.specs.Places.{no_place, is_clean, file_bytes, base_bytes, good_bytes, IsGrown, IsCutBack, IsTornBack, KeepsBase, KeepsBytes, IsFlushed, IsSealed, IsSealOf, published};
+
+    /// A place without a file.
+    pub(crate) fn empty() -> Self
+        ensures { result ≡ no_place }
+    {
+        Place {
+            file: None,
+            base: 0,
+            good: 0,
+            torn: false,
+            fresh: None,
+        }
+    }
+
+    /// Whether it has just its committed bytes.
+    pub(crate) fn is_clean(&self) -> bool
+        ensures clean { result ≡ is_clean self.now }
+        ensures just { IsTrue result → IsTrue F.tells → file_bytes self.now.file ≡ base_bytes self.now }
+    {
+        !self.torn && self.good == self.base
+    }
+
+    /// How many bytes are committed.
+    pub(crate) fn base(&self) -> u64
+        ensures { result ≡ self.now.base }
+    {
+        self.base
+    }
+
+    /// Adds a block at the end of the good bytes. A place without a file gets one.
+    pub(crate) fn append<S: Store<File = F, Seal = Z>>(
+        &mut self,
+        store: &mut S,
+        id: FileId,
+        block: &[u8],
+    ) -> Result<(), StoreFault>
+        requires { self.old.torn ≡ false }
+        ensures grown { OnOk result (IsGrown F.tells self.old block.now self.new) }
+        ensures whole { OnOk result (self.new.torn ≡ false) }
+        ensures kept { OnErr result (IsGrown F.tells self.old [] self.new) }
+        ensures torn { IsErrOf result StoreFault.Failed → ForSome self.new.file (λ _. self.new.torn ≡ true) }
+        ensures missing { IsNone self.new.file → self.new ≡ self.old }
+        ensures not_torn { IsErrOf result StoreFault.NoMemory → self.new.torn ≡ false }
+
+        ensures cause { IsErrOf result StoreFault.Failed → Rose (S.faults store.old) (S.faults store.new) }
+        ensures store { GoesOn S.faults S.given S.sound store.old store.new }
+    {
+        if self.file.is_none() {
+            self.file = Some(store.create(id)?);
+        }
+        let Some(file) = &mut self.file else {
+            unreachable!();
+        };
+        match store.append(file, block) {
+            Ok(()) => {
+                self.good += block.len() as u64;
+                Ok(())
+            }
+            Err(StoreFault::Failed) => {
+                self.torn = true;
+                Err(StoreFault::Failed)
+            }
+            Err(StoreFault::NoMemory) => Err(StoreFault::NoMemory),
+        }
+    }
+
+    /// Cuts the file to its committed bytes, if it may have others.
+    pub(crate) fn cut_back<S: Store<File = F, Seal = Z>>(
+        &mut self,
+        store: &mut S,
+    ) -> Result<(), Failed>
+        requires { self.old.fresh ≡ None }
+        ensures cut { OnOk result (IsCutBack F.tells self.old self.new) }
+        ensures still { is_clean self.old ≡ true → self.new ≡ self.old }
+        ensures torn { OnErr result (IsTornBack F.tells self.old self.new) }
+        ensures kept { KeepsBase F.tells self.old self.new }
+
+        ensures cause { OnErr result (Rose (S.faults store.old) (S.faults store.new)) }
+        ensures store { GoesOn S.faults S.given S.sound store.old store.new }
+    {
+        if !self.torn && self.good == self.base {
+            return Ok(());
+        }
+        let Some(file) = &mut self.file else {
+            unreachable!();
+        };
+        self.good = self.base;
+        match store.cut(file, self.base) {
+            Ok(()) => {
+                self.torn = false;
+                Ok(())
+            }
+            Err(Failed) => {
+                self.torn = true;
+                Err(Failed)
+            }
+        }
+    }
+
+    /// Flushes the file, if it has grown. No byte changes.
+    pub(crate) fn flush<S: Store<File = F, Seal = Z>>(
+        &mut self,
+        store: &mut S,
+    ) -> Result<(), StoreFault>
+        requires { self.old.torn ≡ false }
+        ensures kept { KeepsBytes F.tells self.old self.new }
+        ensures flushed { OnOk result (IsFlushed self.new) }
+
+        ensures cause { IsErrOf result StoreFault.Failed → Rose (S.faults store.old) (S.faults store.new) }
+        ensures store { GoesOn S.faults S.given S.sound store.old store.new }
+    {
+        if self.good == self.base {
+            return Ok(());
+        }
+        match &mut self.file {
+            None => Ok(()),
+            Some(file) => store.flush(file),
+        }
+    }
+
+    /// Seals the file, if it has grown. It can't fail.
+    pub(crate) fn seal<S: Store<File = F, Seal = Z>>(&mut self, store: &mut S)
+        requires whole { self.old.torn ≡ false }
+        requires flushed { IsFlushed self.old }
+        ensures sealed { IsSealed F.tells Z.tells self.old self.new }
+
+        ensures no_fault { S.faults store.new ≡ S.faults store.old }
+        ensures store { GoesOn S.faults S.given S.sound store.old store.new }
+    {
+        if self.good == self.base {
+            return;
+        }
+        let Some(file) = &mut self.file else {
+            unreachable!();
+        };
+        self.fresh = Some(store.seal(file));
+    }
+
+    /// Hands out the fresh seal, and what is under it is committed.
+    pub(crate) fn publish(&mut self) -> Option<Z>
+        ensures place { self.new ≡ published self.old }
+        ensures seal { option_map Z.state result ≡ self.old.fresh }
+        ensures order { self.old.base ≤ self.old.good }
+        ensures len { ForSome self.old.fresh (λ z. self.old.base ≤ z.len) }
+        ensures bytes { ForSome self.old.fresh (λ z. z.len ≡ self.old.good → IsTrue F.tells → IsTrue Z.tells → z.bytes ≡ good_bytes self.old) }
+        ensures just { self.old.torn ≡ false → IsTrue F.tells → file_bytes self.old.file ≡ good_bytes self.old }
+    {
+        let seal = self.fresh.take()?;
+        self.base = seal.len();
+        Some(seal)
+    }
+}
