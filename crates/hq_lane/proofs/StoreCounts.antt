@@ -1,5 +1,5 @@
 -- A store goes on over several calls.
-use Rattle.std.proofs.Common.{ℕ, refl, ◌∙◌, arith}
+use Rattle.std.proofs.Common.{ℕ, ◌+◌, ◌≤◌, min, refl, ◌∙◌, arith}
 use Rattle.hq_lane.specs.StoreCounts.{GoesOn}
 
 -- no call
@@ -14,3 +14,7 @@ goes_on_more faults given sound a b c first next = record {
   steady = λ s. next.steady (first.stays_sound s) ∙ first.steady s;
   stays_sound = λ s. next.stays_sound (first.stays_sound s);
 }
+
+-- a count that has risen by d, and then by at least n, up to its type's end
+pub raised_more : (end before d n size now new : ℕ) → min (before + d) end ≤ now → n ≤ size → min (now + size) end ≤ new → min (before + (d + n)) end ≤ new
+raised_more end before d n size now new first less next = omega arith

@@ -147,6 +147,13 @@ impl<F: StoredFile, Z: SealCopy> Lane<F, Z> {
         self.places[bucket as usize].base()
     }
 
+    pub(crate) fn place(&self, bucket: u8) -> &Place<F, Z>
+        requires { bucket < 16 }
+        ensures { result.now ≡ place_of self.now.places bucket }
+    {
+        &self.places[bucket as usize]
+    }
+
     pub(crate) fn take_apart(self) -> Vec<Place<F, Z>>
         ensures places { result.items ≡ self.places }
         ensures sixteen { vec_len result ≡ 16 }

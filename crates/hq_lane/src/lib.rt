@@ -2,11 +2,17 @@
 #![tactic(auto)]
 
 mod append;
+mod blocks;
 mod lane;
 mod part;
 mod parts;
 mod place;
 mod places;
+mod range;
+mod scan;
+mod scan_end;
 
 pub use lane::Lane;
 pub use part::LanePart;
+pub use scan::scan_seal;
+pub use scan_end::ScanEnd;

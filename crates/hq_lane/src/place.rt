@@ -4,6 +4,7 @@ ghost use Rattle.std.specs.Option.{ForSome};
 ghost use Rattle.hq_value.specs.Causes.{Rose};
 ghost use Rattle.hq_lane.specs.StoreCounts.{GoesOn};
 
+use crate::range::Readable;
 use hq_store::{SealCopy, Store, StoreFault, StoredFile};
 use hq_value::{Failed, FileId};
 use std::marker::Model;
@@ -71,6 +72,14 @@ impl<F: StoredFile, Z: SealCopy> Place<F, Z> {
         ensures { result ≡ self.now.base }
     {
         self.base
+    }
+
+    /// How many bytes are committed or whole blocks behind those.
+    pub(crate) fn good(&self) -> u64
+        ensures good { result ≡ self.now.good }
+        ensures order { self.now.base ≤ self.now.good }
+    {
+        self.good
     }
 
     /// Adds a block at the end of the good bytes. A place without a file gets one.
@@ -194,5 +203,25 @@ impl<F: StoredFile, Z: SealCopy> Place<F, Z> {
         let seal = self.fresh.take()?;
         self.base = seal.len();
         Some(seal)
+    }
+}
+
+impl<F: StoredFile, Z: SealCopy, S: Store<File = F, Seal = Z>> Readable<S> for Place<F, Z> {
+    ghost use Rattle.hq_lane.specs.Places.{good_bytes};
+
+    ghost tells = { F.tells };
+
+    ghost bytes = { good_bytes };
+
+    ghost end = { λ p. p.good };
+
+    fn read(&self, store: &mut S, at: u64, into: &mut [u8]) -> Result<(), Failed> {
+        if into.is_empty() {
+            return Ok(());
+        }
+        let Some(file) = &self.file else {
+            unreachable!();
+        };
+        store.read_own(file, at, into)
     }
 }
