@@ -1,11 +1,13 @@
 -- Blocks taken from the front of bytes, read by ranges.
-use Rattle.std.proofs.Common.{◌≡◌, ℕ, ◌+◌, ◌-◌, ◌<◌, ◌≤◌, min, Bool, List, [], ◌∷◌, ◌++◌, length, take, drop, refl, sym, ap, subst, ◌∙◌, append_assoc, append-nil, length-append, length-take, length-drop, IsTrue, arith, slice_range}
+use Rattle.std.proofs.Common.{◌≡◌, ℕ, ◌+◌, ◌-◌, ◌<◌, ◌≤◌, min, All, Bool, List, [], ◌∷◌, ◌++◌, length, take, drop, refl, sym, ap, subst, ◌∙◌, append_assoc, append-nil, length-append, length-take, length-drop, IsTrue, arith, slice_range}
 use Rattle.std.specs.Prelude.{flat_map}
 use Rattle.std.specs.List.{AllByRecursion}
 use Rattle.std.proofs.Math.Seq.{take-add, drop-append_seam}
 use Rattle.std.proofs.lemmas.List.{drop-drop, take-take, take_all, take_at, take-append-drop, drop_at}
+use Rattle.std.proofs.lemmas.List.Elements.{All-nil, All-cons, All-append}
 use Rattle.hq_value.specs.declared.value.Value.{Value}
 use Rattle.hq_value.specs.declared.table.Kind.{Kind}
+use Rattle.hq_block.specs.Row.{Fits, IsStorable}
 use Rattle.hq_block.specs.Block.{IsBlock, version_1, FileRows, block_bytes, body_bytes}
 use Rattle.hq_block.proofs.Files.{one_block, files_joined, first_block, other_blocks}
 use Rattle.hq_lane.specs.Scans.{IsFile, BeginsNoBlock, HasRead}
@@ -83,25 +85,30 @@ rest_is_file kinds front rest rows all first file = rest_by kinds first.0 rest a
 take-length : (n : ℕ) (xs : List ℕ) → take (length (take n xs)) xs ≡ take n xs
 take-length n xs = ap (take (length (take n xs))) (sym (take-append-drop n xs)) ∙ take_at (take n xs) (drop n xs) (length (take n xs)) refl
 
--- within a file, enough bytes behind its first blocks begin with a block
-pub never_bad : (kinds : List Kind) (bytes chunk : List ℕ) (from at to size : ℕ) (rows : List (List Value)) → from ≤ at → at + size ≤ to → min 65536 (to - at) ≤ size → 0 < length chunk
-    → IsFile kinds (slice_range bytes from to) → FileRows kinds (slice_range bytes from at) rows → chunk ≡ slice_range bytes at (at + size) → BeginsNoBlock kinds chunk → ⊥
-never_bad kinds bytes chunk from at to size rows behind within enough some file so_far is no_block =
-    let left : List ℕ = slice_range bytes at to in
-    let end : at + (to - at) ≡ to = omega arith in
-    let size_is : at + size - at ≡ size = omega arith in
-    let whole : slice_range bytes from to ≡ slice_range bytes from at ++ left =
-      ap (slice_range bytes from) (sym end) ∙ sym (slice_range-append bytes from at (to - at) behind) ∙ ap (λ (n : ℕ). slice_range bytes from at ++ slice_range bytes at n) end in
-    let rest : IsFile kinds left = rest_is_file kinds (slice_range bytes from at) left rows file.0 so_far (subst (λ (l : List ℕ). FileRows kinds l file.0) whole file.1) in
-    let begun : chunk ≡ take size left = is ∙ ap (λ (n : ℕ). take n (drop at bytes)) size_is ∙ sym (take-take size (to - at) (drop at bytes) (omega arith)) in
-    let long : length chunk ≡ min size (length left) = ap length begun ∙ length-take size left in
+-- enough bytes of what follows a file within a file begin with a block
+begins_block : (kinds : List Kind) (front left chunk : List ℕ) (size room : ℕ) (rows : List (List Value)) → IsFile kinds (front ++ left) → FileRows kinds front rows → chunk ≡ take size left → length left ≤ room → min 65536 room ≤ size
+    → 0 < length chunk → BeginsNoBlock kinds chunk → ⊥
+begins_block kinds front left chunk size room rows file so_far is most enough some no_block =
+    let rest : IsFile kinds left = rest_is_file kinds front left rows file.0 so_far file.1 in
+    let long : length chunk ≡ min size (length left) = ap length is ∙ length-take size left in
     let first = first_block kinds left rest.0 rest.1 (omega (arith, long)) in
     let m : ℕ = length (take first.1.0 left) in
     let short : m ≤ 65536 = (block_long kinds first.0 (take first.1.0 left) first.1.1).1 in
     let inside : m ≤ length left = omega (arith, length-take first.1.0 left) in
-    let most : length left ≤ to - at = omega (arith, length-take (to - at) (drop at bytes)) in
     let fits : m ≤ size = omega (arith, short, inside, most, enough) in
-    no_block first.0 m (subst (IsBlock kinds first.0) (sym (ap (take m) begun ∙ take-take m size left fits ∙ take-length first.1.0 left)) first.1.1)
+    let same : take m chunk ≡ take first.1.0 left = ap (take m) is ∙ take-take m size left fits ∙ take-length first.1.0 left in
+    no_block first.0 m (subst (IsBlock kinds first.0) (sym same) first.1.1)
+
+-- within a file, enough bytes behind its first blocks begin with a block
+pub never_bad : (kinds : List Kind) (bytes chunk : List ℕ) (from at to size : ℕ) (rows : List (List Value)) → from ≤ at → at + size ≤ to → min 65536 (to - at) ≤ size → 0 < length chunk
+    → IsFile kinds (slice_range bytes from to) → FileRows kinds (slice_range bytes from at) rows → chunk ≡ slice_range bytes at (at + size) → BeginsNoBlock kinds chunk → ⊥
+never_bad kinds bytes chunk from at to size rows behind within enough some file so_far is no_block =
+    let end : at + (to - at) ≡ to = omega arith in
+    let size_is : at + size - at ≡ size = omega arith in
+    let whole : slice_range bytes from to ≡ slice_range bytes from at ++ slice_range bytes at to =
+      ap (slice_range bytes from) (sym end) ∙ sym (slice_range-append bytes from at (to - at) behind) ∙ ap (λ (n : ℕ). slice_range bytes from at ++ slice_range bytes at n) end in
+    let begun : chunk ≡ take size (slice_range bytes at to) = is ∙ ap (λ (n : ℕ). take n (drop at bytes)) size_is ∙ sym (take-take size (to - at) (drop at bytes) (omega arith)) in
+    begins_block kinds (slice_range bytes from at) (slice_range bytes at to) chunk size (to - at) rows (subst (IsFile kinds) whole file) so_far begun (omega (arith, length-take (to - at) (drop at bytes))) enough some no_block
 
 -- a range of what is behind it
 pub slice_range-own : (bytes : List ℕ) (base good : ℕ) → slice_range (take good bytes) base good ≡ drop base (take good bytes)
@@ -110,3 +117,18 @@ slice_range-own bytes base good = take_all (good - base) (drop base (take good b
 -- all that is there
 pub slice_range-all : (bytes : List ℕ) (len : ℕ) → len ≡ length bytes → slice_range bytes 0 len ≡ bytes
 slice_range-all bytes len is = take_all (len - 0) bytes (omega (arith, is))
+
+-- rows of blocks fit
+blocks_fit : (kinds : List Kind) (blocks : List Block) → AllByRecursion (λ (block : Block). IsBlock kinds block.0 block.1) blocks → All (Fits kinds) (flat_map (λ (block : Block). block.0) blocks)
+blocks_fit kinds [] ok = All-nil (Fits kinds)
+blocks_fit kinds (x ∷ xs) ok = All-append (Fits kinds) x.0 (flat_map (λ (block : Block). block.0) xs) (rows_fit kinds x.0 (storable kinds x.0 x.1 ok.0)) (blocks_fit kinds xs ok.1)
+  where
+    storable : (kinds : List Kind) (rows : List (List Value)) (bytes : List ℕ) → IsBlock kinds rows bytes → AllByRecursion (IsStorable kinds) rows
+    storable kinds rows bytes (version_1 is) = is.storable
+    rows_fit : (kinds : List Kind) (rows : List (List Value)) → AllByRecursion (IsStorable kinds) rows → All (Fits kinds) rows
+    rows_fit kinds [] ok = All-nil (Fits kinds)
+    rows_fit kinds (row ∷ rows) ok = All-cons (Fits kinds) row rows ok.0.fits (rows_fit kinds rows ok.1)
+
+-- rows of a file fit
+pub file_fits : (kinds : List Kind) (bytes : List ℕ) (rows : List (List Value)) → FileRows kinds bytes rows → All (Fits kinds) rows
+file_fits kinds bytes rows file = subst (All (Fits kinds)) (sym file.3) (blocks_fit kinds file.0 file.1)

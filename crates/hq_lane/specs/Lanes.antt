@@ -3,15 +3,17 @@
 --     EachPlace R old new                   R holds from each old place to the new one
 --     are_clean places, AreClean places     each has just its committed bytes
 --     AreFlushed places                     none is torn, and each that has grown is flushed
+--     AreSealed told seal_told places       none is torn, and each that has grown has a fresh seal of its bytes
 --     HaveNoSeal places                     none has a fresh seal
 --     StopsAt told old new                  places are cut back in order, up to a failure
 --     owns part b, place_in parts n b       whether a part has the place of bucket b, and that place of part n
 --     ArePartsOf lane owner parts           the lane's places, each in the part of its owner
 --     AreOneLane parts                      they are of one lane, with every place once
 --     IsWholeOf parts lane                  the lane has the places of the parts
+--     HaveSameHeads old new                 nothing of the parts changes but their places
 use Rattle.std.specs.Prelude.{◌≡◌, ℕ, ◌<◌, Bool, true, false, List, [], length, None, nat_eq, slice_index, slice_index_or}
 use Rattle.std.specs.List.{list_all}
-use Rattle.hq_lane.specs.Places.{PlaceState, no_place, is_clean, IsCutBack, IsTornBack, IsFlushed}
+use Rattle.hq_lane.specs.Places.{PlaceState, no_place, is_clean, IsCutBack, IsTornBack, IsFlushed, IsSealed}
 
 pub record LaneState : Type 0 where
   pub table : ℕ
@@ -48,6 +50,10 @@ AreWhole places = (b : ℕ) → b < 16 → (place_of places b).torn ≡ false
 -- none is torn, and each that has grown is flushed
 abbrev pub AreFlushed : List PlaceState → Type 0
 AreFlushed places = (b : ℕ) → b < 16 → ((place_of places b).torn ≡ false) × IsFlushed (place_of places b)
+
+-- none is torn, and each that has grown has a fresh seal of its bytes
+abbrev pub AreSealed : Bool → Bool → List PlaceState → Type 0
+AreSealed told seal_told places = (b : ℕ) → b < 16 → IsSealed told seal_told (place_of places b)
 
 -- none has a fresh seal
 abbrev pub HaveNoSeal : List PlaceState → Type 0
@@ -102,3 +108,10 @@ pub record IsWholeOf (parts : List PartState) (lane : LaneState) : Type 0 where
   pub table : lane.table ≡ (part_at parts 0).table
   pub number : lane.number ≡ (part_at parts 0).number
   pub places : (n b : ℕ) → n < length parts → b < 16 → owns (part_at parts n) b ≡ true → place_of lane.places b ≡ place_in parts n b
+
+-- nothing of the parts changes but their places
+pub record HaveSameHeads (old new : List PartState) : Type 0 where
+  pub sixteen : length new ≡ length old
+  pub table : (n : ℕ) → (part_at new n).table ≡ (part_at old n).table
+  pub number : (n : ℕ) → (part_at new n).number ≡ (part_at old n).number
+  pub here : (n : ℕ) → (part_at new n).here ≡ (part_at old n).here

@@ -8,7 +8,8 @@
 --     KeepsBytes told old new              no byte changes
 --     KeepsBase told old new               no committed byte changes
 --     IsFlushed p                          if it has grown, its file is flushed
---     IsSealed told seal_told old new      if it has grown, it has a fresh seal of its bytes
+--     IsSealed told seal_told p            it is whole, and if it has grown it has a fresh seal of its bytes
+--     KeepsFile told old new               nothing changes but the seal
 --     published p                          what is under its fresh seal is committed
 use Rattle.std.specs.Prelude.{◌≡◌, ℕ, ◌+◌, ◌<◌, ◌≤◌, ◌==◌, Bool, true, false, not, ◌&&◌, List, [], ◌++◌, length, take, drop, IsTrue, Option, Some, None, IsNone, IsSomeAnd}
 use Rattle.std.specs.Option.{ForSome}
@@ -112,13 +113,17 @@ pub record IsSealOf (told seal_told : Bool) (p : PlaceState) (z : SealState) : T
   pub len : z.len ≡ p.good
   pub bytes : IsTrue told → IsTrue seal_told → z.bytes ≡ file_bytes p.file
 
--- if it has grown it has a fresh seal of its bytes, none of which changes
-pub record IsSealed (told seal_told : Bool) (old new : PlaceState) : Type 0 where
+-- it is not torn, and if it has grown it has a fresh seal of its bytes
+pub record IsSealed (told seal_told : Bool) (p : PlaceState) : Type 0 where
+  pub whole : p.torn ≡ false
+  pub grown : p.base < p.good → IsSomeAnd p.fresh (IsSealOf told seal_told p)
+
+-- nothing changes but the seal, and nothing at all if it has not grown
+pub record KeepsFile (told : Bool) (old new : PlaceState) : Type 0 where
   pub bytes : IsTrue told → file_bytes new.file ≡ file_bytes old.file
   pub good : new.good ≡ old.good
   pub base : new.base ≡ old.base
   pub torn : new.torn ≡ old.torn
-  pub grown : old.base < old.good → IsSomeAnd new.fresh (IsSealOf told seal_told old)
   pub still : old.base ≡ old.good → new ≡ old
 
 -- the place when what is under a seal is committed

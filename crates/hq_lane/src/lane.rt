@@ -3,7 +3,7 @@ ghost use Rattle.std.specs.Prelude.{◌≡◌, ◌<◌, ◌≤◌, ◌↔◌, �
 ghost use Rattle.std.specs.Option.{ForSome};
 ghost use Rattle.hq_value.specs.Causes.{Rose};
 ghost use Rattle.hq_lane.specs.StoreCounts.{GoesOn};
-ghost use Rattle.hq_lane.specs.Places.{no_place, file_bytes, base_bytes, good_bytes, IsCutBack, KeepsBase, KeepsBytes, IsSealed, published};
+ghost use Rattle.hq_lane.specs.Places.{no_place, file_bytes, base_bytes, good_bytes, IsCutBack, KeepsBase, KeepsBytes, KeepsFile, published};
 
 use crate::place::Place;
 use crate::places::{all_clean, cut_all, flush_each, make_places, seal_each};
@@ -32,7 +32,7 @@ impl<F: StoredFile, Z: SealCopy> Model for Lane<F, Z> {
 }
 
 impl<F: StoredFile, Z: SealCopy> Lane<F, Z> {
-    ghost use Rattle.hq_lane.specs.Lanes.{LaneState, place_of, EachPlace, are_clean, AreClean, AreWhole, AreFlushed, HaveNoSeal, StopsAt};
+    ghost use Rattle.hq_lane.specs.Lanes.{LaneState, place_of, EachPlace, are_clean, AreClean, AreWhole, AreFlushed, AreSealed, HaveNoSeal, StopsAt};
 
     /// A lane without files.
     pub fn fresh(alloc: Global, table: u32, number: u8) -> Result<Self, NoMemory>
@@ -115,7 +115,8 @@ impl<F: StoredFile, Z: SealCopy> Lane<F, Z> {
     pub fn seal_all<S: Store<File = F, Seal = Z>>(&mut self, store: &mut S)
         requires { AreFlushed self.old.places }
         ensures lane { self.new ≡ record self.old { places = self.new.places } }
-        ensures sealed { EachPlace (IsSealed F.tells Z.tells) self.old.places self.new.places }
+        ensures sealed { AreSealed F.tells Z.tells self.new.places }
+        ensures kept { EachPlace (KeepsFile F.tells) self.old.places self.new.places }
 
         ensures no_fault { S.faults store.new ≡ S.faults store.old }
         ensures store { GoesOn S.faults S.given S.sound store.old store.new }
@@ -129,9 +130,10 @@ impl<F: StoredFile, Z: SealCopy> Lane<F, Z> {
         ensures lane { self.new ≡ record self.old { places = slice_set self.old.places bucket (published (place_of self.old.places bucket)) } }
         ensures seal { option_map Z.state result ≡ (place_of self.old.places bucket).fresh }
         ensures order { (place_of self.old.places bucket).base ≤ (place_of self.old.places bucket).good }
-        ensures len { ForSome (place_of self.old.places bucket).fresh (λ z. (place_of self.old.places bucket).base ≤ z.len) }
-        ensures bytes { ForSome (place_of self.old.places bucket).fresh (λ z. z.len ≡ (place_of self.old.places bucket).good
-            → IsTrue F.tells → IsTrue Z.tells → z.bytes ≡ good_bytes (place_of self.old.places bucket)) }
+        ensures longer { ForSome (place_of self.old.places bucket).fresh (λ z. (place_of self.old.places bucket).base ≤ z.len) }
+        ensures within { ForSome (place_of self.old.places bucket).fresh (λ z. z.len ≤ (place_of self.old.places bucket).good) }
+        ensures committed { ForSome (place_of self.old.places bucket).fresh (λ z. IsTrue F.tells → IsTrue Z.tells
+            → base_bytes (published (place_of self.old.places bucket)) ≡ z.bytes) }
         ensures just { (place_of self.old.places bucket).torn ≡ false → IsTrue F.tells
             → file_bytes (place_of self.old.places bucket).file ≡ good_bytes (place_of self.old.places bucket) }
         ensures sixteen { length self.old.places ≡ 16 }

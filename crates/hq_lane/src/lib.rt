@@ -4,6 +4,7 @@
 mod append;
 mod blocks;
 mod lane;
+mod laws;
 mod part;
 mod parts;
 mod place;
@@ -13,6 +14,10 @@ mod scan;
 mod scan_end;
 
 pub use lane::Lane;
+pub use laws::parts_make_a_lane;
 pub use part::LanePart;
 pub use scan::scan_seal;
 pub use scan_end::ScanEnd;
+
+#[cfg(test)]
+mod tests;

@@ -44,7 +44,7 @@ impl<F: StoredFile, Z: SealCopy> Model for Place<F, Z> {
 }
 
 impl<F: StoredFile, Z: SealCopy> Place<F, Z> {
-    ghost use Rattle.hq_lane.specs.Places.{no_place, is_clean, file_bytes, base_bytes, good_bytes, IsGrown, IsCutBack, IsTornBack, KeepsBase, KeepsBytes, IsFlushed, IsSealed, IsSealOf, published};
+    ghost use Rattle.hq_lane.specs.Places.{no_place, is_clean, file_bytes, base_bytes, good_bytes, IsGrown, IsCutBack, IsTornBack, KeepsBase, KeepsBytes, IsFlushed, IsSealed, KeepsFile, published};
 
     /// A place without a file.
     pub(crate) fn empty() -> Self
@@ -64,7 +64,7 @@ impl<F: StoredFile, Z: SealCopy> Place<F, Z> {
         ensures clean { result ≡ is_clean self.now }
         ensures just { IsTrue result → IsTrue F.tells → file_bytes self.now.file ≡ base_bytes self.now }
     {
-        !self.torn && self.good == self.base
+        self.good == self.base && !self.torn
     }
 
     /// How many bytes are committed.
@@ -133,7 +133,7 @@ impl<F: StoredFile, Z: SealCopy> Place<F, Z> {
         ensures cause { OnErr result (Rose (S.faults store.old) (S.faults store.new)) }
         ensures store { GoesOn S.faults S.given S.sound store.old store.new }
     {
-        if !self.torn && self.good == self.base {
+        if self.is_clean() {
             return Ok(());
         }
         let Some(file) = &mut self.file else {
@@ -177,7 +177,8 @@ impl<F: StoredFile, Z: SealCopy> Place<F, Z> {
     pub(crate) fn seal<S: Store<File = F, Seal = Z>>(&mut self, store: &mut S)
         requires whole { self.old.torn ≡ false }
         requires flushed { IsFlushed self.old }
-        ensures sealed { IsSealed F.tells Z.tells self.old self.new }
+        ensures sealed { IsSealed F.tells Z.tells self.new }
+        ensures kept { KeepsFile F.tells self.old self.new }
 
         ensures no_fault { S.faults store.new ≡ S.faults store.old }
         ensures store { GoesOn S.faults S.given S.sound store.old store.new }
@@ -196,8 +197,9 @@ impl<F: StoredFile, Z: SealCopy> Place<F, Z> {
         ensures place { self.new ≡ published self.old }
         ensures seal { option_map Z.state result ≡ self.old.fresh }
         ensures order { self.old.base ≤ self.old.good }
-        ensures len { ForSome self.old.fresh (λ z. self.old.base ≤ z.len) }
-        ensures bytes { ForSome self.old.fresh (λ z. z.len ≡ self.old.good → IsTrue F.tells → IsTrue Z.tells → z.bytes ≡ good_bytes self.old) }
+        ensures longer { ForSome self.old.fresh (λ z. self.old.base ≤ z.len) }
+        ensures within { ForSome self.old.fresh (λ z. z.len ≤ self.old.good) }
+        ensures committed { ForSome self.old.fresh (λ z. IsTrue F.tells → IsTrue Z.tells → base_bytes (published self.old) ≡ z.bytes) }
         ensures just { self.old.torn ≡ false → IsTrue F.tells → file_bytes self.old.file ≡ good_bytes self.old }
     {
         let seal = self.fresh.take()?;

@@ -2,8 +2,8 @@
 ghost use Rattle.std.specs.Prelude.{◌≡◌, ◌<◌, ◌≤◌, ◌↔◌, ℕ, true, false, replicate, length, IsTrue, IfOk, OnOk, OnErr, IsErrOf, None};
 ghost use Rattle.hq_value.specs.Causes.{Rose};
 ghost use Rattle.hq_lane.specs.StoreCounts.{GoesOn};
-ghost use Rattle.hq_lane.specs.Places.{no_place, file_bytes, base_bytes, IsCutBack, KeepsBase, KeepsBytes, IsFlushed, IsSealed};
-ghost use Rattle.hq_lane.specs.Lanes.{place_of, EachPlace, are_clean, AreClean, AreWhole, AreFlushed, HaveNoSeal, StopsAt};
+ghost use Rattle.hq_lane.specs.Places.{no_place, file_bytes, base_bytes, IsCutBack, KeepsBase, KeepsBytes, IsFlushed, KeepsFile};
+ghost use Rattle.hq_lane.specs.Lanes.{place_of, EachPlace, are_clean, AreClean, AreWhole, AreFlushed, AreSealed, HaveNoSeal, StopsAt};
 
 use crate::place::Place;
 use hq_store::{SealCopy, Store, StoreFault, StoredFile};
@@ -89,7 +89,8 @@ pub(crate) fn seal_each<F: StoredFile, Z: SealCopy, S: Store<File = F, Seal = Z>
     requires sixteen { length places.old.items ≡ 16 }
     requires flushed { AreFlushed places.old.items }
     ensures sixteen { length places.new.items ≡ 16 }
-    ensures sealed { EachPlace (IsSealed F.tells Z.tells) places.old.items places.new.items }
+    ensures sealed { AreSealed F.tells Z.tells places.new.items }
+    ensures kept { EachPlace (KeepsFile F.tells) places.old.items places.new.items }
 
     ensures no_fault { S.faults store.new ≡ S.faults store.old }
     ensures store { GoesOn S.faults S.given S.sound store.old store.new }

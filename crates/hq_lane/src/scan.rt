@@ -1,6 +1,7 @@
 //! Rows read again.
-ghost use Rattle.std.specs.Prelude.{◌≡◌, ◌+◌, ◌-◌, ◌<◌, ◌≤◌, ℕ, length, min, slice_range, vec_len, IsTrue, IfOk, IsErrOf};
+ghost use Rattle.std.specs.Prelude.{◌≡◌, ◌+◌, ◌-◌, ◌<◌, ◌≤◌, ℕ, All, length, min, slice_range, vec_len, IsTrue, IfOk, IsErrOf};
 ghost use Rattle.hq_value.specs.Causes.{Rose, raised};
+ghost use Rattle.hq_block.specs.Row.{Fits};
 ghost use Rattle.hq_lane.specs.StoreCounts.{GoesOn};
 ghost use Rattle.hq_lane.specs.Scans.{IsFile, BeginsNoBlock, HasRead, IsBadAt, IfRows, OnStore, IfBadBlock};
 ghost use Rattle.hq_lane.specs.Places.{own_bytes};
@@ -27,6 +28,7 @@ pub fn scan_seal<S: Store>(
 ) -> ScanEnd
     requires { IsTrue S.Seal.tells → IsFile kinds.now (S.Seal.state seal.now).bytes }
     ensures rows { IfRows result (HasRead S.Seal.tells (S.Seal.state seal.now).bytes (S.Seal.state seal.now).len kinds.now) }
+    ensures fit { IfRows result (All (Fits kinds.now)) }
     ensures given { IfRows result (λ _. raised (S.given store.old) (S.Seal.state seal.now).len ≤ S.given store.new) }
     ensures bad { IfBadBlock result (IsBadAt kinds.now 0 (S.Seal.state seal.now).len) }
     ensures never_bad { IsTrue S.Seal.tells → IfBadBlock result (λ _ _. ⊥) }
@@ -53,6 +55,7 @@ impl<F: StoredFile, Z: SealCopy> Lane<F, Z> {
         requires file { IsTrue F.tells → IsFile kinds.now (own_bytes (place_of self.now.places bucket)) }
         ensures rows { IfRows result (HasRead F.tells (own_bytes (place_of self.now.places bucket))
             ((place_of self.now.places bucket).good - (place_of self.now.places bucket).base) kinds.now) }
+        ensures fit { IfRows result (All (Fits kinds.now)) }
         ensures given { IfRows result (λ _. raised (S.given store.old)
             ((place_of self.now.places bucket).good - (place_of self.now.places bucket).base) ≤ S.given store.new) }
         ensures bad { IfBadBlock result (IsBadAt kinds.now (place_of self.now.places bucket).base (place_of self.now.places bucket).good) }
@@ -74,6 +77,7 @@ fn scan_place<F: StoredFile, Z: SealCopy, S: Store<File = F, Seal = Z>>(
 ) -> ScanEnd
     requires { IsTrue F.tells → IsFile kinds.now (own_bytes place.now) }
     ensures rows { IfRows result (HasRead F.tells (own_bytes place.now) (place.now.good - place.now.base) kinds.now) }
+    ensures fit { IfRows result (All (Fits kinds.now)) }
     ensures given { IfRows result (λ _. raised (S.given store.old) (place.now.good - place.now.base) ≤ S.given store.new) }
     ensures bad { IfBadBlock result (IsBadAt kinds.now place.now.base place.now.good) }
     ensures never_bad { IsTrue F.tells → IfBadBlock result (λ _ _. ⊥) }
@@ -98,6 +102,7 @@ fn scan<S: Store, R: Readable<S>>(
     requires within { to ≤ R.end range.now }
     requires file { IsTrue R.tells → IsFile kinds.now (slice_range (R.bytes range.now) from to) }
     ensures rows { IfRows result (HasRead R.tells (slice_range (R.bytes range.now) from to) (to - from) kinds.now) }
+    ensures fit { IfRows result (All (Fits kinds.now)) }
     ensures given { IfRows result (λ _. raised (S.given store.old) (to - from) ≤ S.given store.new) }
     ensures bad { IfBadBlock result (IsBadAt kinds.now from to) }
     ensures never_bad { IsTrue R.tells → IfBadBlock result (λ _ _. ⊥) }

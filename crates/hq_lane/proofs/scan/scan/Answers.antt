@@ -1,7 +1,7 @@
 -- More is read, and no bad block where the bytes are told.
 use Rattle.std.proofs.Common.{◌≡◌, ℕ, ◌+◌, ◌-◌, ◌<◌, ◌≤◌, min, Err, List, length, vec_len, slice_range, ap, subst, arith}
 use Rattle.hq_block.specs.Block.{FileRows}
-use Rattle.hq_lane.proofs.Scanning.{read_more, never_bad}
+use Rattle.hq_lane.proofs.Scanning.{read_more, never_bad, file_fits}
 use Rattle.hq_lane.proofs.StoreCounts.{goes_on_more, raised_more}
 use Rattle.hq_lane.proofs.scan.scan.Goals as goal
 
@@ -33,3 +33,6 @@ returns-in-Err-BadBlock-clause-never_bad g c = λ t.
     let long : length c.read_blocks.new.chunk ≡ length c.deref_mut.result.now = omega (arith, c.read_blocks.auto.chunk) in
     never_bad c.args.kinds.now bytes c.read_blocks.new.chunk c.args.from c.loop-at.at c.args.to (length c.deref_mut.result.now) c.loop-at.rows.items so_far.behind (omega arith) (omega arith) (omega arith)
       (c.requires.file t) (subst (λ (l : List ℕ). FileRows c.args.kinds.now l c.loop-at.rows.items) (so_far.read.are_told t) so_far.read.file) (told.bad_told (ap Err c.in-Err-BadBlock.field-0-is) t) (told.bad (ap Err c.in-Err-BadBlock.field-0-is))
+
+pub returns-clause-fit : goal.returns-clause-fit
+returns-clause-fit g c = file_fits c.args.kinds.now c.loop-at.invariant.read.bytes c.loop-at.rows.items c.loop-at.invariant.read.file

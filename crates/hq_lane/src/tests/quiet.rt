@@ -1,0 +1,109 @@
+//! A store in memory that tells nothing, and whose reads may give zeros.
+
+use hq_store::{MemFile, MemSeal, MemStore, SealCopy, Store, StoreFault, StoredFile};
+use hq_value::{Failed, FileId, NoMemory};
+
+#[derive(Drop)]
+pub struct File {
+    file: MemFile,
+}
+
+#[derive(Drop)]
+pub struct Seal {
+    seal: MemSeal,
+}
+
+#[derive(Drop)]
+pub struct Quiet {
+    store: MemStore,
+    blank: bool,
+}
+
+impl StoredFile for File {
+    ghost use Rattle.std.specs.Prelude.{false};
+
+    ghost tells = { false };
+
+    ghost state = { λ f. f.file };
+}
+
+impl SealCopy for Seal {
+    ghost use Rattle.std.specs.Prelude.{false, length, refl};
+
+    ghost tells = { false };
+
+    ghost state = { λ s. record { bytes = s.seal; len = length s.seal } };
+
+    fn copy(&self) -> Result<Seal, NoMemory> {
+        let seal = self.seal.copy()?;
+        Ok(Seal { seal })
+    }
+
+    fn len(&self) -> u64 {
+        self.seal.len()
+    }
+
+    ghost told_len = { λ s t. refl };
+}
+
+impl Quiet {
+    pub fn new(store: MemStore, blank: bool) -> Quiet {
+        Quiet { store, blank }
+    }
+}
+
+impl Store for Quiet {
+    ghost use Rattle.hq_store.specs.MemPlan.{NoFailureLeft};
+
+    type File = File;
+
+    type Seal = Seal;
+
+    ghost faults = { λ s. s.store.faults };
+
+    ghost given = { λ s. s.store.given };
+
+    ghost sound = { λ s. NoFailureLeft s.store };
+
+    fn create(&mut self, id: FileId) -> Result<File, StoreFault> {
+        let file = self.store.create(id)?;
+        Ok(File { file })
+    }
+
+    fn append(&mut self, file: &mut File, bytes: &[u8]) -> Result<(), StoreFault> {
+        self.store.append(&mut file.file, bytes)
+    }
+
+    fn cut(&mut self, file: &mut File, len: u64) -> Result<(), Failed> {
+        self.store.cut(&mut file.file, len)
+    }
+
+    fn flush(&mut self, file: &mut File) -> Result<(), StoreFault> {
+        self.store.flush(&mut file.file)
+    }
+
+    fn seal(&mut self, file: &mut File) -> Seal {
+        let seal = self.store.seal(&mut file.file);
+        Seal { seal }
+    }
+
+    fn read(&mut self, seal: &Seal, at: u64, into: &mut [u8]) -> Result<(), Failed> {
+        self.store.read(&seal.seal, at, into)?;
+        if self.blank {
+            into.fill(0);
+        }
+        Ok(())
+    }
+
+    fn read_own(&mut self, file: &File, at: u64, into: &mut [u8]) -> Result<(), Failed> {
+        self.store.read_own(&file.file, at, into)
+    }
+
+    fn given(&self) -> u64 {
+        self.store.given()
+    }
+
+    fn faults(&self) -> u64 {
+        self.store.faults()
+    }
+}
