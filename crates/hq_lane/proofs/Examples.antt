@@ -1,11 +1,9 @@
 -- The definitions at small places, and at what is none.
-use Rattle.std.proofs.Common.{◌≡◌, ℕ, ◌<◌, ◌≤◌, Bool, true, false, Some, None, List, [], ◌∷◌, length, replicate, refl, ap, arith, lit<, lit≤}
-use Rattle.hq_value.specs.declared.value.Value.{Value}
+use Rattle.std.proofs.Common.{◌≡◌, ℕ, ◌<◌, true, false, Some, None, List, [], ◌∷◌, length, replicate, refl, ap, arith, lit<}
 use Rattle.hq_value.specs.declared.table.Kind.TheVariants as kind
-use Rattle.hq_block.specs.Block.{IsBlock}
 use Rattle.hq_block.specs.Reading.{some_block_at, block_at, head_at}
 use Rattle.hq_block.proofs.BlockLaws.{no_block}
-use Rattle.hq_store.specs.FileStep.{FileState, SealState}
+use Rattle.hq_store.specs.FileStep.{FileState}
 use Rattle.hq_lane.specs.Places.{PlaceState, no_place, base_bytes, own_bytes, good_bytes, is_clean, published, IsGrown, IsCutBack, IsTornBack}
 use Rattle.hq_lane.specs.Lanes.{are_clean}
 use Rattle.hq_lane.specs.Scans.{BeginsNoBlock}

@@ -5,3 +5,4 @@ pub mod Merging
 pub mod Parting
 pub mod Scanning
 pub mod StoreCounts
+pub mod Writing

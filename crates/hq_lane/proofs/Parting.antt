@@ -1,5 +1,5 @@
 -- The parts of a lane are one lane.
-use Rattle.std.proofs.Common.{◌≡◌, ℕ, ◌<◌, Bool, true, false, List, nat_eq, slice_index, slice_index_or, refl, sym, ap, ◌∙◌, arith}
+use Rattle.std.proofs.Common.{◌≡◌, ℕ, ◌<◌, Bool, false, List, slice_index, slice_index_or, refl, sym, ap, ◌∙◌, arith}
 use Rattle.std.proofs.lemmas.Bool.{eqb-true, eq-eqb}
 use Rattle.hq_lane.specs.Lanes.{LaneState, PartState, part_at, place_of, place_in, owns, ArePartsOf, AreOneLane, IsOnce, IsWholeOf, HaveSameHeads}
 

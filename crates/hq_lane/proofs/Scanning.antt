@@ -1,14 +1,14 @@
 -- Blocks taken from the front of bytes, read by ranges.
-use Rattle.std.proofs.Common.{◌≡◌, ℕ, ◌+◌, ◌-◌, ◌<◌, ◌≤◌, min, All, Bool, List, [], ◌∷◌, ◌++◌, length, take, drop, refl, sym, ap, subst, ◌∙◌, append_assoc, append-nil, length-append, length-take, length-drop, IsTrue, arith, slice_range}
+use Rattle.std.proofs.Common.{◌≡◌, ℕ, ◌+◌, ◌-◌, ◌<◌, ◌≤◌, min, All, Bool, List, [], ◌∷◌, ◌++◌, length, take, drop, refl, sym, ap, subst, ◌∙◌, append_assoc, append-nil, length-append, length-take, length-drop, arith, slice_range}
 use Rattle.std.specs.Prelude.{flat_map}
 use Rattle.std.specs.List.{AllByRecursion}
-use Rattle.std.proofs.Math.Seq.{take-add, drop-append_seam}
+use Rattle.std.proofs.Math.Seq.{take-add}
 use Rattle.std.proofs.lemmas.List.{drop-drop, take-take, take_all, take_at, take-append-drop, drop_at}
 use Rattle.std.proofs.lemmas.List.Elements.{All-nil, All-cons, All-append}
 use Rattle.hq_value.specs.declared.value.Value.{Value}
 use Rattle.hq_value.specs.declared.table.Kind.{Kind}
 use Rattle.hq_block.specs.Row.{Fits, IsStorable}
-use Rattle.hq_block.specs.Block.{IsBlock, version_1, FileRows, block_bytes, body_bytes}
+use Rattle.hq_block.specs.Block.{IsBlock, version_1, FileRows, body_bytes}
 use Rattle.hq_block.proofs.Files.{one_block, files_joined, first_block, other_blocks}
 use Rattle.hq_lane.specs.Scans.{IsFile, BeginsNoBlock, HasRead}
 use Rattle.hq_lane.specs.Taking.{TookBlocks, ReadBlocks}
@@ -106,7 +106,7 @@ never_bad kinds bytes chunk from at to size rows behind within enough some file 
     let end : at + (to - at) ≡ to = omega arith in
     let size_is : at + size - at ≡ size = omega arith in
     let whole : slice_range bytes from to ≡ slice_range bytes from at ++ slice_range bytes at to =
-      ap (slice_range bytes from) (sym end) ∙ sym (slice_range-append bytes from at (to - at) behind) ∙ ap (λ (n : ℕ). slice_range bytes from at ++ slice_range bytes at n) end in
+    ap (slice_range bytes from) (sym end) ∙ sym (slice_range-append bytes from at (to - at) behind) ∙ ap (λ (n : ℕ). slice_range bytes from at ++ slice_range bytes at n) end in
     let begun : chunk ≡ take size (slice_range bytes at to) = is ∙ ap (λ (n : ℕ). take n (drop at bytes)) size_is ∙ sym (take-take size (to - at) (drop at bytes) (omega arith)) in
     begins_block kinds (slice_range bytes from at) (slice_range bytes at to) chunk size (to - at) rows (subst (IsFile kinds) whole file) so_far begun (omega (arith, length-take (to - at) (drop at bytes))) enough some no_block
 
@@ -125,6 +125,7 @@ blocks_fit kinds (x ∷ xs) ok = All-append (Fits kinds) x.0 (flat_map (λ (bloc
   where
     storable : (kinds : List Kind) (rows : List (List Value)) (bytes : List ℕ) → IsBlock kinds rows bytes → AllByRecursion (IsStorable kinds) rows
     storable kinds rows bytes (version_1 is) = is.storable
+
     rows_fit : (kinds : List Kind) (rows : List (List Value)) → AllByRecursion (IsStorable kinds) rows → All (Fits kinds) rows
     rows_fit kinds [] ok = All-nil (Fits kinds)
     rows_fit kinds (row ∷ rows) ok = All-cons (Fits kinds) row rows ok.0.fits (rows_fit kinds rows ok.1)

@@ -20,12 +20,7 @@ use std::alloc::Global;
 const CHUNK: u64 = 262_144;
 
 /// The rows under a seal. The seal's bytes are, where they are told, blocks of these kinds.
-pub fn scan_seal<S: Store>(
-    alloc: Global,
-    store: &mut S,
-    seal: &S::Seal,
-    kinds: &Kinds,
-) -> ScanEnd
+pub fn scan_seal<S: Store>(alloc: Global, store: &mut S, seal: &S::Seal, kinds: &Kinds) -> ScanEnd
     requires { IsTrue S.Seal.tells → IsFile kinds.now (S.Seal.state seal.now).bytes }
     ensures rows { IfRows result (HasRead S.Seal.tells (S.Seal.state seal.now).bytes (S.Seal.state seal.now).len kinds.now) }
     ensures fit { IfRows result (All (Fits kinds.now)) }

@@ -79,7 +79,7 @@ fn read(alloc: Global, store: &mut Quiet, seal: Option<quiet::Seal>, kinds: &Kin
 fn commit(
     alloc: Global,
     store: &mut Quiet,
-    lane: Lane<quiet::File, quiet::Seal>,
+    lane: Lane<MemFile, quiet::Seal>,
     kinds: &Kinds,
 ) -> Outcome
     requires whole { AreWhole lane.places }
@@ -133,29 +133,74 @@ fn all_fit(kinds: &Kinds, rows: &[Row]) -> bool
     rows.iter().all(|row| fits(kinds, row))
 }
 
-
 #[test]
 fn rows_are_committed_or_cut_back_whatever_call_fails(rt: HostRuntime) -> Result<(), Fail> {
     let alloc = rt.alloc();
     let kinds = int_kinds(alloc)?;
     let rows = int_rows(alloc, 3)?;
     let cases = [
-        ([1, 0], Outcome::Cut { clean: true }),
-        ([2, 0], Outcome::Cut { clean: true }),
-        ([2, 3], Outcome::Cut { clean: false }),
-        ([3, 0], Outcome::Cut { clean: true }),
-        ([3, 4], Outcome::Cut { clean: false }),
-        ([4, 0], Outcome::Cut { clean: true }),
-        ([5, 0], Outcome::NotRead),
-        ([6, 0], Outcome::Read(6)),
+        ([1, 0], false, Outcome::Cut { clean: true }),
+        ([2, 0], false, Outcome::Cut { clean: true }),
+        ([2, 3], false, Outcome::Cut { clean: false }),
+        ([3, 0], false, Outcome::Cut { clean: true }),
+        ([3, 4], false, Outcome::Cut { clean: false }),
+        ([4, 0], false, Outcome::Cut { clean: true }),
+        ([5, 0], false, Outcome::NotRead),
+        ([6, 0], false, Outcome::Read(6)),
+        ([6, 0], true, Outcome::Bad(86)),
     ];
-    for (calls, outcome) in cases {
+    for (calls, blank, outcome) in cases {
         for tail in [0, 10, 25] {
-            let plan = vec![in alloc; Planned { call: calls[0], tail }, Planned { call: calls[1], tail }]?;
-            let mut store = Quiet::new(MemStore::new(alloc, plan), false);
+            let [first, second] = calls;
+            let plan = vec![in alloc;
+                Planned { call: first, tail },
+                Planned { call: second, tail },
+            ]?;
+            let mut store = Quiet::new(MemStore::new(alloc, plan), blank);
             assert!(rt; kinds.len() == 1 && all_fit(&kinds, &rows));
             assert_eq!(rt; course(alloc, &mut store, &kinds, &rows)?, outcome);
         }
     }
     Ok(())
+}
+
+// The rows of one bucket of a new lane.
+fn own_rows(
+    alloc: Global,
+    store: &mut MemStore,
+    kinds: &Kinds,
+    rows: &[Row],
+) -> Result<ScanEnd, Fail>
+    requires some_kinds { 0 < length kinds.now }
+    requires few_kinds { length kinds.now ≤ 64 }
+    requires fit { All (Fits kinds.now) rows.now }
+{
+    let lane = Lane::fresh(alloc, 0, 0)?;
+    let (lane, _) = write(alloc, store, lane, kinds, rows);
+    let end = lane.scan_own(alloc, store, BUCKET, kinds);
+    lane.abandon();
+    Ok(end)
+}
+
+#[test]
+fn own_rows_are_read_before_they_are_committed(rt: HostRuntime) -> Result<(), Fail> {
+    let alloc = rt.alloc();
+    let kinds = int_kinds(alloc)?;
+    for count in [0, 1, 20_000] {
+        let rows = int_rows(alloc, count)?;
+        let mut store = MemStore::new(alloc, Vec::new(alloc));
+        assert!(rt; kinds.len() == 1 && all_fit(&kinds, &rows));
+        match own_rows(alloc, &mut store, &kinds, &rows)? {
+            ScanEnd::Rows(read) => assert_eq!(rt; read, rows),
+            _ => return Err(Fail::from("they were not read")),
+        }
+    }
+    Ok(())
+}
+
+fn goes_between_tasks<T: Send>() {}
+
+#[test]
+fn parts_go_between_tasks() {
+    goes_between_tasks::<LanePart<MemFile, MemSeal>>();
 }

@@ -1,12 +1,7 @@
-//! A store in memory that tells nothing, and whose reads may give zeros.
+//! A store in memory whose seals tell nothing, and whose reads may give zeros.
 
-use hq_store::{MemFile, MemSeal, MemStore, SealCopy, Store, StoreFault, StoredFile};
+use hq_store::{MemFile, MemSeal, MemStore, SealCopy, Store, StoreFault};
 use hq_value::{Failed, FileId, NoMemory};
-
-#[derive(Drop)]
-pub struct File {
-    file: MemFile,
-}
 
 #[derive(Drop)]
 pub struct Seal {
@@ -17,14 +12,6 @@ pub struct Seal {
 pub struct Quiet {
     store: MemStore,
     blank: bool,
-}
-
-impl StoredFile for File {
-    ghost use Rattle.std.specs.Prelude.{false};
-
-    ghost tells = { false };
-
-    ghost state = { λ f. f.file };
 }
 
 impl SealCopy for Seal {
@@ -55,7 +42,7 @@ impl Quiet {
 impl Store for Quiet {
     ghost use Rattle.hq_store.specs.MemPlan.{NoFailureLeft};
 
-    type File = File;
+    type File = MemFile;
 
     type Seal = Seal;
 
@@ -65,25 +52,24 @@ impl Store for Quiet {
 
     ghost sound = { λ s. NoFailureLeft s.store };
 
-    fn create(&mut self, id: FileId) -> Result<File, StoreFault> {
-        let file = self.store.create(id)?;
-        Ok(File { file })
+    fn create(&mut self, id: FileId) -> Result<MemFile, StoreFault> {
+        self.store.create(id)
     }
 
-    fn append(&mut self, file: &mut File, bytes: &[u8]) -> Result<(), StoreFault> {
-        self.store.append(&mut file.file, bytes)
+    fn append(&mut self, file: &mut MemFile, bytes: &[u8]) -> Result<(), StoreFault> {
+        self.store.append(file, bytes)
     }
 
-    fn cut(&mut self, file: &mut File, len: u64) -> Result<(), Failed> {
-        self.store.cut(&mut file.file, len)
+    fn cut(&mut self, file: &mut MemFile, len: u64) -> Result<(), Failed> {
+        self.store.cut(file, len)
     }
 
-    fn flush(&mut self, file: &mut File) -> Result<(), StoreFault> {
-        self.store.flush(&mut file.file)
+    fn flush(&mut self, file: &mut MemFile) -> Result<(), StoreFault> {
+        self.store.flush(file)
     }
 
-    fn seal(&mut self, file: &mut File) -> Seal {
-        let seal = self.store.seal(&mut file.file);
+    fn seal(&mut self, file: &mut MemFile) -> Seal {
+        let seal = self.store.seal(file);
         Seal { seal }
     }
 
@@ -95,8 +81,8 @@ impl Store for Quiet {
         Ok(())
     }
 
-    fn read_own(&mut self, file: &File, at: u64, into: &mut [u8]) -> Result<(), Failed> {
-        self.store.read_own(&file.file, at, into)
+    fn read_own(&mut self, file: &MemFile, at: u64, into: &mut [u8]) -> Result<(), Failed> {
+        self.store.read_own(file, at, into)
     }
 
     fn given(&self) -> u64 {

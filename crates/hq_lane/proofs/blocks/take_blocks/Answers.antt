@@ -1,5 +1,5 @@
 -- A block more is taken.
-use Rattle.std.proofs.Common.{◌≡◌, ℕ, ◌-◌, Err, List, length, take, drop, refl, sym, ap, subst, ◌∙◌, arith}
+use Rattle.std.proofs.Common.{◌≡◌, ℕ, ◌-◌, Err, List, length, take, drop, sym, ap, subst, ◌∙◌, arith}
 use Rattle.std.proofs.lemmas.List.{take_rest}
 use Rattle.std.proofs.lemmas.Grind.{common_steps}
 use Rattle.hq_block.specs.Block.{IsBlock}
@@ -10,7 +10,7 @@ pub loop-used-preserved : goal.loop-used-preserved
 loop-used-preserved c = record {
   within = grind (arith, common_steps, c.in-Ok.ensures.within);
   took = took_more c.args.kinds.now c.loop-used.used c.in-Ok.length c.args.bytes.now _ c.args.rows.now.items c.loop-used.rows.items c.append.new.self.items c.in-Ok.block.items c.loop-used.invariant.took
-    (take_rest c.args.bytes.now c.loop-used.used) c.in-Ok.ensures.found c.in_ok-append-in-Ok.ensures.items;
+      (take_rest c.args.bytes.now c.loop-used.used) c.in-Ok.ensures.found c.in_ok-append-in-Ok.ensures.items;
 }
 
 pub returns-in-Err-NotABlock-clause-none : goal.returns-in-Err-NotABlock-clause-none

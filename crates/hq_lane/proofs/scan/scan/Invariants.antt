@@ -12,7 +12,7 @@ invariant-loop-at g l = record {
   size : min 262144 (l.to - l.at) ≤ vec_len l.chunk;
   read : HasRead g.R.Readable.tells (slice_range (g.R.Readable.bytes l.range) l.from l.at) (l.at - l.from) l.kinds l.rows.items;
   given : raised (g.S.Store.given l.initial.store) (l.at - l.from) ≤ g.S.Store.given l.store;
-  store : GoesOn g.S.Store.faults g.S.Store.given g.S.Store.sound l.initial.store l.store
+  store : GoesOn g.S.Store.faults g.S.Store.given g.S.Store.sound l.initial.store l.store;
 }
 
 abbrev pub decreases-loop-at : goal.decreases-loop-at
