@@ -7,6 +7,7 @@
 --     IsCutBack, IsTornBack                what a cut to the committed bytes leaves, and one that failed
 --     KeepsBytes told old new              no byte changes
 --     KeepsBase told old new               no committed byte changes
+--     StaysIfClean old new                 a clean place is left as it is
 --     IsFlushed p                          if it has grown, its file is flushed
 --     IsSealed told seal_told p            it is whole, and if it has grown it has a fresh seal of its bytes
 --     KeepsFile told old new               nothing changes but the seal
@@ -95,6 +96,10 @@ pub record KeepsBase (told : Bool) (old new : PlaceState) : Type 0 where
   pub bytes : IsTrue told → base_bytes new ≡ base_bytes old
   pub base : new.base ≡ old.base
   pub fresh : new.fresh ≡ old.fresh
+
+-- a clean place is left as it is
+abbrev pub StaysIfClean : PlaceState → PlaceState → Type 0
+StaysIfClean old new = is_clean old ≡ true → new ≡ old
 
 -- no byte changes
 pub record KeepsBytes (told : Bool) (old new : PlaceState) : Type 0 where

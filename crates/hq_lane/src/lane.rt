@@ -3,7 +3,7 @@ ghost use Rattle.std.specs.Prelude.{◌≡◌, ◌<◌, ◌≤◌, ◌↔◌, �
 ghost use Rattle.std.specs.Option.{ForSome};
 ghost use Rattle.hq_value.specs.Causes.{Rose};
 ghost use Rattle.hq_lane.specs.StoreCounts.{GoesOn};
-ghost use Rattle.hq_lane.specs.Places.{no_place, file_bytes, base_bytes, good_bytes, IsCutBack, KeepsBase, KeepsBytes, KeepsFile, published};
+ghost use Rattle.hq_lane.specs.Places.{no_place, file_bytes, base_bytes, good_bytes, IsCutBack, KeepsBase, StaysIfClean, KeepsBytes, KeepsFile, published};
 
 use crate::place::Place;
 use crate::places::{all_clean, cut_all, flush_each, make_places, seal_each};
@@ -88,6 +88,7 @@ impl<F: StoredFile, Z: SealCopy> Lane<F, Z> {
         ensures clean { OnOk result (AreClean self.new.places) }
         ensures stopped { OnErr result (StopsAt F.tells self.old.places self.new.places) }
         ensures kept { EachPlace (KeepsBase F.tells) self.old.places self.new.places }
+        ensures still { EachPlace StaysIfClean self.old.places self.new.places }
 
         ensures cause { OnErr result (Rose (S.faults store.old) (S.faults store.new)) }
         ensures store { GoesOn S.faults S.given S.sound store.old store.new }

@@ -44,7 +44,7 @@ impl<F: StoredFile, Z: SealCopy> Model for Place<F, Z> {
 }
 
 impl<F: StoredFile, Z: SealCopy> Place<F, Z> {
-    ghost use Rattle.hq_lane.specs.Places.{no_place, is_clean, file_bytes, base_bytes, good_bytes, IsGrown, IsCutBack, IsTornBack, KeepsBase, KeepsBytes, IsFlushed, IsSealed, KeepsFile, published};
+    ghost use Rattle.hq_lane.specs.Places.{no_place, is_clean, file_bytes, base_bytes, good_bytes, IsGrown, IsCutBack, IsTornBack, KeepsBase, StaysIfClean, KeepsBytes, IsFlushed, IsSealed, KeepsFile, published};
 
     /// A place without a file.
     pub(crate) fn empty() -> Self
@@ -126,7 +126,7 @@ impl<F: StoredFile, Z: SealCopy> Place<F, Z> {
     ) -> Result<(), Failed>
         requires { self.old.fresh ≡ None }
         ensures cut { OnOk result (IsCutBack F.tells self.old self.new) }
-        ensures still { is_clean self.old ≡ true → self.new ≡ self.old }
+        ensures still { StaysIfClean self.old self.new }
         ensures torn { OnErr result (IsTornBack F.tells self.old self.new) }
         ensures kept { KeepsBase F.tells self.old self.new }
 

@@ -2,7 +2,7 @@
 ghost use Rattle.std.specs.Prelude.{◌≡◌, ◌<◌, ◌≤◌, ◌↔◌, ℕ, true, false, replicate, length, IsTrue, IfOk, OnOk, OnErr, IsErrOf, None};
 ghost use Rattle.hq_value.specs.Causes.{Rose};
 ghost use Rattle.hq_lane.specs.StoreCounts.{GoesOn};
-ghost use Rattle.hq_lane.specs.Places.{no_place, file_bytes, base_bytes, IsCutBack, KeepsBase, KeepsBytes, IsFlushed, KeepsFile};
+ghost use Rattle.hq_lane.specs.Places.{no_place, file_bytes, base_bytes, IsCutBack, KeepsBase, StaysIfClean, KeepsBytes, IsFlushed, KeepsFile};
 ghost use Rattle.hq_lane.specs.Lanes.{place_of, EachPlace, are_clean, AreClean, AreWhole, AreFlushed, AreSealed, HaveNoSeal, StopsAt};
 
 use crate::place::Place;
@@ -51,6 +51,7 @@ pub(crate) fn cut_all<F: StoredFile, Z: SealCopy, S: Store<File = F, Seal = Z>>(
     ensures cut { OnOk result (EachPlace (IsCutBack F.tells) places.old.items places.new.items) }
     ensures stopped { OnErr result (StopsAt F.tells places.old.items places.new.items) }
     ensures kept { EachPlace (KeepsBase F.tells) places.old.items places.new.items }
+    ensures still { EachPlace StaysIfClean places.old.items places.new.items }
 
     ensures cause { OnErr result (Rose (S.faults store.old) (S.faults store.new)) }
     ensures store { GoesOn S.faults S.given S.sound store.old store.new }
