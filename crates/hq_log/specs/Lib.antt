@@ -1,0 +1,4 @@
+pub mod Legal
+pub mod Marks
+pub mod Places
+pub mod Pools
