@@ -37,7 +37,7 @@ fn adopt(pool: &mut Pool<u32>, n: u8) -> Option<(u8, u32)> {
 }
 
 // The lane that moved, and its number, which is 0 where there is none.
-fn act(pool: &mut Pool<u32>, act: Act) -> Option<(u8, u32)> {
+fn perform(pool: &mut Pool<u32>, act: Act) -> Option<(u8, u32)> {
     match act {
         Act::Lend => match pool.lend(1) {
             Lent::Clean(n, value) | Lent::Sweep(n, value) => Some((n, value)),
@@ -75,7 +75,7 @@ fn clean_lanes_come_first_and_then_those_with_a_tail(rt: HostRuntime) -> Result<
         (Act::Lend, Some((0, 30)), Next::Clean(1)),
     ];
     for (step, moved, next) in steps {
-        assert_eq!(rt; act(&mut pool, step), moved);
+        assert_eq!(rt; perform(&mut pool, step), moved);
         assert_eq!(rt; pool.next(), next);
     }
     Ok(())
@@ -91,7 +91,7 @@ fn all_64_lanes_are_lent(rt: HostRuntime) -> Result<(), Fail> {
     assert_eq!(rt; pool.lend(7), Lent::AllOut { out: 64 });
     assert_eq!(rt; pool.place(63), Some(Place::Out(7)));
     assert_eq!(rt; pool.place(64), None);
-    assert_eq!(rt; act(&mut pool, Act::BackClean(63, 9)), Some((63, 9)));
+    assert_eq!(rt; perform(&mut pool, Act::BackClean(63, 9)), Some((63, 9)));
     assert_eq!(rt; pool.lend(8), Lent::Clean(63, 9));
     let slots = pool.into_slots();
     assert_eq!(rt; slots.len(), 64);
