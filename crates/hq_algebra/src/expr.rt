@@ -1,0 +1,52 @@
+//! Expressions.
+use hq_value::{Sequence, Value};
+use sqlite_items::Boxed;
+
+/// A step of arithmetic.
+#[derive(Clone, Copy, Debug, PartialEq, Eq)]
+pub enum ArithKind {
+    Plus,
+    Minus,
+    Times,
+}
+
+/// A comparison of two values.
+#[derive(Clone, Copy, Debug, PartialEq, Eq)]
+pub enum CompareKind {
+    Equal,
+    NotEqual,
+    Less,
+    AtMost,
+    Greater,
+    AtLeast,
+}
+
+/// An expression over a row. A column is named by its place in the row, from 0.
+#[derive(Debug, Drop)]
+pub enum Expr {
+    Column(u16),
+    Literal(Value),
+    Arith {
+        kind: ArithKind,
+        left: Boxed<Expr>,
+        right: Boxed<Expr>,
+    },
+    Compare {
+        kind: CompareKind,
+        left: Boxed<Expr>,
+        right: Boxed<Expr>,
+    },
+    And {
+        left: Boxed<Expr>,
+        right: Boxed<Expr>,
+    },
+    Or {
+        left: Boxed<Expr>,
+        right: Boxed<Expr>,
+    },
+    Not(Boxed<Expr>),
+    IsNull(Boxed<Expr>),
+}
+
+/// Expressions in order.
+pub type Exprs = Sequence<Expr>;

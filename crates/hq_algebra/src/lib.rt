@@ -1,0 +1,20 @@
+//! Expressions, queries and plans as values; what an expression means, and the kinds of what an operator gives.
+#![tactic(auto)]
+
+mod aggregate;
+mod evaluate;
+mod expr;
+mod op;
+mod plan;
+mod query;
+mod steps;
+
+pub use aggregate::{Aggregate, Aggregates};
+pub use evaluate::{Evaluated, eval};
+pub use expr::{ArithKind, CompareKind, Expr, Exprs};
+pub use op::{Keys16, Op, SortKey, SortKeys};
+pub use plan::{Motion, Plan, Slice, Slices};
+pub use query::{Query, Tables32};
+
+#[cfg(test)]
+mod tests;

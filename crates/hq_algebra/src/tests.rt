@@ -1,0 +1,155 @@
+use super::*;
+use hq_value::{Chars, NoMemory, Row, Value};
+use sqlite_items::Boxed;
+use std::alloc::Global;
+use std::test::Fail;
+
+const MOST: i64 = i64::MAX;
+
+fn int(n: i64) -> Expr {
+    Expr::Literal(Value::Int(n))
+}
+
+fn truth(b: bool) -> Expr {
+    Expr::Literal(Value::Bool(b))
+}
+
+fn null() -> Expr {
+    Expr::Literal(Value::Null)
+}
+
+fn text(alloc: Global, text: &str) -> Result<Value, Fail> {
+    let text = String::from_str(alloc, text)?;
+    if text.len() > Chars::MOST {
+        return Ok(Value::Null);
+    }
+    Ok(Value::Text(Chars::new(text)))
+}
+
+fn arith(alloc: Global, kind: ArithKind, left: Expr, right: Expr) -> Result<Expr, Fail> {
+    Ok(Expr::Arith {
+        kind,
+        left: Boxed::new(alloc, left)?,
+        right: Boxed::new(alloc, right)?,
+    })
+}
+
+fn compare(alloc: Global, kind: CompareKind, left: Expr, right: Expr) -> Result<Expr, Fail> {
+    Ok(Expr::Compare {
+        kind,
+        left: Boxed::new(alloc, left)?,
+        right: Boxed::new(alloc, right)?,
+    })
+}
+
+fn and(alloc: Global, left: Expr, right: Expr) -> Result<Expr, Fail> {
+    Ok(Expr::And {
+        left: Boxed::new(alloc, left)?,
+        right: Boxed::new(alloc, right)?,
+    })
+}
+
+fn or(alloc: Global, left: Expr, right: Expr) -> Result<Expr, Fail> {
+    Ok(Expr::Or {
+        left: Boxed::new(alloc, left)?,
+        right: Boxed::new(alloc, right)?,
+    })
+}
+
+fn not(alloc: Global, of: Expr) -> Result<Expr, Fail> {
+    Ok(Expr::Not(Boxed::new(alloc, of)?))
+}
+
+// The value, or none at a fault.
+fn value_over(alloc: Global, e: &Expr, row: &Row) -> Result<Option<Value>, NoMemory> {
+    match eval(alloc, e, row) {
+        Evaluated::Is(value) => Ok(Some(value)),
+        Evaluated::Fault => Ok(None),
+        Evaluated::NoMemory => Err(NoMemory),
+    }
+}
+
+// An expression, and its value over the row (the greatest number, NULL, 'ab'), or none at a fault.
+#[derive(Drop)]
+struct Case {
+    e: Expr,
+    value: Option<Value>,
+}
+
+fn arithmetic_cases(alloc: Global) -> Result<[Case; 5], Fail> {
+    let next = arith(alloc, ArithKind::Plus, Expr::Column(0), int(1))?;
+    let less = arith(alloc, ArithKind::Minus, int(-2), Expr::Column(0))?;
+    let twice = arith(alloc, ArithKind::Times, Expr::Column(0), int(2))?;
+    let beside_null = arith(alloc, ArithKind::Plus, null(), twice)?;
+    let opposite = arith(alloc, ArithKind::Minus, int(0), Expr::Column(0))?;
+    let with_null = arith(alloc, ArithKind::Times, Expr::Column(0), Expr::Column(1))?;
+    Ok([
+        Case::new(next, None),
+        Case::new(less, None),
+        Case::new(beside_null, None),
+        Case::new(opposite, Some(Value::Int(-MOST))),
+        Case::new(with_null, Some(Value::Null)),
+    ])
+}
+
+fn truth_cases(alloc: Global) -> Result<[Case; 8], Fail> {
+    let null_equals = compare(alloc, CompareKind::Equal, null(), Expr::Column(1))?;
+    let before_b = compare(
+        alloc,
+        CompareKind::Less,
+        Expr::Column(2),
+        Expr::Literal(text(alloc, "b")?),
+    )?;
+    let at_most = compare(alloc, CompareKind::AtMost, int(-1), Expr::Column(0))?;
+    let is_null = Expr::IsNull(Boxed::new(alloc, Expr::Column(1))?);
+    let is_null_not = not(alloc, Expr::IsNull(Boxed::new(alloc, Expr::Column(2))?))?;
+    Ok([
+        Case::new(null_equals, Some(Value::Null)),
+        Case::new(before_b, Some(Value::Bool(true))),
+        Case::new(at_most, Some(Value::Bool(true))),
+        Case::new(is_null, Some(Value::Bool(true))),
+        Case::new(is_null_not, Some(Value::Bool(true))),
+        Case::new(and(alloc, null(), truth(false))?, Some(Value::Bool(false))),
+        Case::new(or(alloc, null(), truth(false))?, Some(Value::Null)),
+        Case::new(Expr::Column(2), Some(text(alloc, "ab")?)),
+    ])
+}
+
+impl Case {
+    fn new(e: Expr, value: Option<Value>) -> Case {
+        Case { e, value }
+    }
+}
+
+fn worked_row(alloc: Global) -> Result<Row, Fail> {
+    let mut row = Row::new(alloc);
+    row.push(Value::Int(MOST))?;
+    row.push(Value::Null)?;
+    row.push(text(alloc, "ab")?)?;
+    Ok(row)
+}
+
+#[test]
+fn expressions_have_their_values(rt: HostRuntime) -> Result<(), Fail> {
+    let alloc = rt.alloc();
+    let row = worked_row(alloc)?;
+    for Case { e, value } in arithmetic_cases(alloc)? {
+        assert_eq!(rt; value_over(alloc, &e, &row)?, value);
+    }
+    for Case { e, value } in truth_cases(alloc)? {
+        assert_eq!(rt; value_over(alloc, &e, &row)?, value);
+    }
+    Ok(())
+}
+
+#[test]
+fn a_deep_expression_has_its_value(rt: HostRuntime) -> Result<(), Fail> {
+    let alloc = rt.alloc();
+    let row = worked_row(alloc)?;
+    let mut e = truth(true);
+    for _ in 0..2100 {
+        e = not(alloc, e)?;
+    }
+    assert_eq!(rt; value_over(alloc, &e, &row)?, Some(Value::Bool(true)));
+    Ok(())
+}
