@@ -27,7 +27,7 @@ abbrev mutual
   eval (expr.IsNull' _ of) row = of_one is_null_of (only of row)
 
   pub only : {m : _} → Row_of-Expr m → List Value → Outcome
-  only end_of-Expr row = Fault
+  only end_of-Expr row = Is value.Null
   only (more_of-Expr e rest) row = eval e row
 
 abbrev pub or_null : Outcome → Value

@@ -1,6 +1,10 @@
 pub mod Answer
 pub mod Eval
+pub mod Found
+pub mod Kinds
+pub mod Operators
 pub mod Outcome
+pub mod Plans
 pub mod Rules
 pub mod Shape
 pub mod Steps

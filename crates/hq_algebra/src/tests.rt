@@ -1,5 +1,5 @@
 use super::*;
-use hq_value::{Chars, NoMemory, Row, Value};
+use hq_value::{Chars, Kind, Kinds, NoMemory, Row, Sequence, Value};
 use sqlite_items::Boxed;
 use std::alloc::Global;
 use std::test::Fail;
@@ -151,5 +151,143 @@ fn a_deep_expression_has_its_value(rt: HostRuntime) -> Result<(), Fail> {
         e = not(alloc, e)?;
     }
     assert_eq!(rt; value_over(alloc, &e, &row)?, Some(Value::Bool(true)));
+    Ok(())
+}
+
+fn scan(alloc: Global, kinds: &[Kind]) -> Result<Op, Fail> {
+    let kinds = kinds.to_vec(alloc)?;
+    Ok(Op::Scan {
+        table: 0,
+        kinds: Sequence::from_vec(kinds),
+    })
+}
+
+fn keys(alloc: Global, keys: &[u16]) -> Result<Keys16, Fail> {
+    Ok(Sequence::from_vec(keys.to_vec(alloc)?))
+}
+
+fn input(alloc: Global) -> Result<Boxed<Op>, Fail> {
+    let op = scan(alloc, &[Kind::Int, Kind::Text])?;
+    Ok(Boxed::new(alloc, op)?)
+}
+
+fn aggregates(alloc: Global, sum: u16, least: u16) -> Result<Aggregates, Fail> {
+    let mut aggregates = Aggregates::new(alloc);
+    aggregates.push(Aggregate::CountAll)?;
+    aggregates.push(Aggregate::Sum(Expr::Column(sum)))?;
+    aggregates.push(Aggregate::Min(Expr::Column(least)))?;
+    Ok(aggregates)
+}
+
+fn partial(alloc: Global) -> Result<Op, Fail> {
+    Ok(Op::Partial {
+        keys: keys(alloc, &[1])?,
+        aggregates: aggregates(alloc, 0, 1)?,
+        input: input(alloc)?,
+    })
+}
+
+fn project(alloc: Global, column: u16) -> Result<Op, Fail> {
+    let mut items = Exprs::new(alloc);
+    items.push(Expr::Column(column))?;
+    items.push(null())?;
+    Ok(Op::Project {
+        items,
+        input: input(alloc)?,
+    })
+}
+
+fn join(alloc: Global, right_key: u16) -> Result<Op, Fail> {
+    Ok(Op::Join {
+        left_keys: keys(alloc, &[0])?,
+        right_keys: keys(alloc, &[right_key])?,
+        left: input(alloc)?,
+        right: input(alloc)?,
+    })
+}
+
+fn sort(alloc: Global, column: u16) -> Result<Op, Fail> {
+    let mut order = SortKeys::new(alloc);
+    order.push(SortKey {
+        column,
+        descending: true,
+    })?;
+    Ok(Op::Sort {
+        order,
+        limit: Some(1),
+        input: input(alloc)?,
+    })
+}
+
+fn finished(alloc: Global, input: Op) -> Result<Op, Fail> {
+    Ok(Op::Final {
+        keys: 1,
+        aggregates: aggregates(alloc, 2, 4)?,
+        input: Boxed::new(alloc, input)?,
+    })
+}
+
+fn filter(alloc: Global, cond: Expr) -> Result<Op, Fail> {
+    Ok(Op::Filter {
+        cond,
+        input: input(alloc)?,
+    })
+}
+
+fn receive(alloc: Global) -> Result<Op, Fail> {
+    let kinds = [Kind::Bool].to_vec(alloc)?;
+    Ok(Op::Receive {
+        slice: 0,
+        kinds: Sequence::from_vec(kinds),
+    })
+}
+
+// The kinds, or none where they do not fit.
+fn kinds_over(alloc: Global, op: &Op) -> Result<Option<Kinds>, NoMemory> {
+    match checked_kinds(alloc, op) {
+        Ok(_) => Ok(Some(kinds_of(alloc, op)?)),
+        Err(Misfit::Wrong) => Ok(None),
+        Err(Misfit::NoMemory) => Err(NoMemory),
+    }
+}
+
+#[test]
+fn operators_have_their_kinds(rt: HostRuntime) -> Result<(), Fail> {
+    let alloc = rt.alloc();
+    let (int, text) = (Kind::Int, Kind::Text);
+    let cases: [(Op, &[Kind]); 9] = [
+        (receive(alloc)?, &[Kind::Bool]),
+        (filter(alloc, truth(true))?, &[int, text]),
+        (project(alloc, 1)?, &[text, text]),
+        (join(alloc, 0)?, &[int, text, int, text]),
+        (partial(alloc)?, &[text, int, int, int, text]),
+        (finished(alloc, partial(alloc)?)?, &[text, int, int, text]),
+        (Op::Distinct(input(alloc)?), &[int, text]),
+        (sort(alloc, 1)?, &[int, text]),
+        (scan(alloc, &[])?, &[]),
+    ];
+    for (op, kinds) in cases {
+        let found = kinds_over(alloc, &op)?.ok_or("the kinds fit")?;
+        assert_eq!(rt; found.as_slice(), kinds);
+    }
+    Ok(())
+}
+
+#[test]
+fn what_does_not_fit_has_no_kinds(rt: HostRuntime) -> Result<(), Fail> {
+    let alloc = rt.alloc();
+    let cases = [
+        filter(alloc, Expr::Column(0))?,
+        project(alloc, 2)?,
+        join(alloc, 1)?,
+        finished(alloc, join(alloc, 0)?)?,
+        sort(alloc, 2)?,
+    ];
+    for op in cases {
+        assert_eq!(rt; kinds_over(alloc, &op)?, None);
+    }
+    let sum = arith(alloc, ArithKind::Plus, Expr::Column(0), Expr::Column(1))?;
+    assert_eq!(rt; expr_kind(&[Kind::Int, Kind::Text], &sum), ExprKind::Wrong);
+    assert_eq!(rt; aggregate_kind(&[Kind::Int], &Aggregate::Sum(sum)), None);
     Ok(())
 }
