@@ -16,6 +16,7 @@ use Rattle.hq_algebra.specs.declared.kinds.ExprKind.TheVariants as typed
 use Rattle.hq_algebra.specs.declared.expr.Expr.TheBlock.{hidden-the_row-Expr-0}
 use Rattle.hq_algebra.specs.declared.op.Op.TheBlock.{hidden-the_row-Op-0}
 use denote.Hole.Carrier.{hidden}
+use Rattle.hq_algebra.specs.Rules.{fit_sources}
 use Rattle.hq_algebra.specs.Kinds.{expr_kind}
 use Rattle.hq_algebra.specs.Operators.{op_kinds}
 use Rattle.hq_algebra.specs.Plans.{are_well_formed}
@@ -139,3 +140,13 @@ scattered_by_nothing = refl
 scattered_past_the_end : are_well_formed (scattered (1 ∷ [])) ≡ false
 unfolding scattered hidden-the_row-Op-0 hidden
 scattered_past_the_end = refl
+
+-- over two sources a sum of a column may stand, a count and a sum of a literal may not
+sum_over_pairs : fit_sources (0 ∷ 0 ∷ []) (agg.Sum (e.Column 2) ∷ []) ≡ true
+sum_over_pairs = refl
+
+count_over_pairs : fit_sources (0 ∷ 0 ∷ []) (agg.CountAll ∷ []) ≡ false
+count_over_pairs = refl
+
+sum_of_ones_over_pairs : fit_sources (0 ∷ 0 ∷ []) (agg.Sum (e.Literal (value.Int (pos 1))) ∷ []) ≡ false
+sum_of_ones_over_pairs = refl

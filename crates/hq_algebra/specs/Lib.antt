@@ -5,6 +5,7 @@ pub mod Kinds
 pub mod Operators
 pub mod Outcome
 pub mod Plans
+pub mod Queries
 pub mod Rules
 pub mod Shape
 pub mod Steps
