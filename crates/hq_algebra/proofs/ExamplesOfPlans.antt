@@ -148,5 +148,5 @@ sum_over_pairs = refl
 count_over_pairs : fit_sources (0 ∷ 0 ∷ []) (agg.CountAll ∷ []) ≡ false
 count_over_pairs = refl
 
-sum_of_ones_over_pairs : fit_sources (0 ∷ 0 ∷ []) (agg.Sum (e.Literal (value.Int (pos 1))) ∷ []) ≡ false
-sum_of_ones_over_pairs = refl
+sum_of_null_over_pairs : fit_sources (0 ∷ 0 ∷ []) (agg.Sum (e.Literal value.Null) ∷ []) ≡ false
+sum_of_null_over_pairs = refl
