@@ -1,0 +1,8 @@
+mod Bags
+mod Committing
+mod Inserting
+mod Making
+mod Parts
+mod Places
+mod Scanned
+mod Sharing

@@ -1,0 +1,83 @@
+//! Rows read again.
+ghost use Rattle.std.specs.Prelude.{◌≡◌, ◌<◌, ◌++◌, ℕ, List, length, IfOk, OnOk};
+ghost use Rattle.hq_value.specs.declared.value.Value.{Value as Datum};
+ghost use Rattle.hq_block.specs.Block.{FileRows};
+ghost use Rattle.hq_lane.specs.Scans.{IsFile};
+ghost use Rattle.hq_table.specs.Kept.{Buckets, bytes_in, rows_of};
+ghost use Rattle.hq_table.specs.Home.{IsQuiet, files_of, seal_bytes};
+
+use crate::spread::BUCKETS;
+use hq_block::{files_grow_by_blocks, files_have_their_rows};
+use hq_lane::{ScanEnd, scan_seal};
+use hq_store::{MemSeal, MemStore};
+use hq_value::{Kinds, NoMemory, Row};
+use std::alloc::Global;
+
+// The rows under a seal, put behind others.
+fn scan_bucket(
+    alloc: Global,
+    store: &mut MemStore,
+    seal: &MemSeal,
+    kinds: &Kinds,
+    rows: &mut Vec<Row>,
+) -> Result<(), NoMemory>
+    requires file { IsFile kinds.now seal.now }
+    requires quiet { IsQuiet store.old }
+    ensures added { OnOk result ((kept : List (List Datum)) → FileRows kinds.now seal.now kept → rows.new.items ≡ rows.old.items ++ kept) }
+    ensures quiet { IsQuiet store.new }
+{
+    files_have_their_rows();
+    match scan_seal(alloc, store, seal, kinds) {
+        ScanEnd::Rows(found) => {
+            let mut found = found;
+            match rows.append(&mut found) {
+                Ok(()) => Ok(()),
+                Err(_) => Err(NoMemory),
+            }
+        }
+        ScanEnd::NoMemory => Err(NoMemory),
+        ScanEnd::Store => unreachable!(),
+        ScanEnd::BadBlock { .. } => unreachable!(),
+    }
+}
+
+// The rows of a bucket, put behind others. Without a seal it has none.
+fn scan_slot(
+    alloc: Global,
+    store: &mut MemStore,
+    slot: &Option<MemSeal>,
+    kinds: &Kinds,
+    rows: &mut Vec<Row>,
+) -> Result<(), NoMemory>
+    requires file { IsFile kinds.now (seal_bytes slot.now) }
+    requires quiet { IsQuiet store.old }
+    ensures added { OnOk result ((kept : List (List Datum)) → FileRows kinds.now (seal_bytes slot.now) kept → rows.new.items ≡ rows.old.items ++ kept) }
+    ensures quiet { IsQuiet store.new }
+{
+    files_have_their_rows();
+    files_grow_by_blocks();
+    match slot {
+        Some(seal) => scan_bucket(alloc, store, seal, kinds, rows),
+        None => Ok(()),
+    }
+}
+
+/// The rows of all buckets, one bucket after the other.
+pub(crate) fn scan(
+    alloc: Global,
+    store: &mut MemStore,
+    seals: &[Option<MemSeal>],
+    kinds: &Kinds,
+) -> Result<Vec<Row>, NoMemory>
+    requires sixteen { length seals.now ≡ 16 }
+    requires files { (b : ℕ) → b < 16 → IsFile kinds.now (bytes_in (files_of seals.now) b) }
+    requires quiet { IsQuiet store.old }
+    ensures rows { IfOk result (λ rows. (kept : Buckets) → ((b : ℕ) → b < 16 → FileRows kinds.now (bytes_in (files_of seals.now) b) (kept b)) → rows.items ≡ rows_of kept) }
+    ensures quiet { IsQuiet store.new }
+{
+    let mut rows = Vec::new(alloc);
+    for bucket in 0..BUCKETS {
+        scan_slot(alloc, store, &seals[bucket], kinds, &mut rows)?;
+    }
+    Ok(rows)
+}
