@@ -4,7 +4,7 @@
 --     CREATE TABLE name ( name INT , .. )               1 to 64 columns of distinct names
 --     INSERT INTO name VALUES ( number , number .. ) , ( .. ) ..
 --     SELECT * FROM name
-use Rattle.std.specs.Prelude.{◌<◌, ◌≤◌, ℕ, pos, negsuc, ◌+◌, ◌-◌, ◌*◌, Bool, true, false, not, ◌&&◌, ◌==◌, nat_le, nat_lt, List, [], ◌∷◌, length, map, fold, codes, Option, None, Some, if◌then◌else◌}
+use Rattle.std.specs.Prelude.{◌<◌, ◌≤◌, ℕ, pos, negsuc, ◌+◌, ◌-◌, ◌*◌, Bool, true, false, not, ◌&&◌, ◌==◌, nat_le, nat_lt, List, [], ◌∷◌, length, map, fold, codes, Option, None, Some, IsTrue, if◌then◌else◌}
 use Rattle.std.specs.List.{list_all, list_any}
 use Rattle.std.specs.Char.{is_ascii_digit}
 use Rattle.std.specs.Str.{bytes_eq}
@@ -170,7 +170,7 @@ form_by word ls =
 unfoldable pub statement_of : List ℕ → Option Statement
 statement_of text = run_at (lexemes text) >>= λ first. form_by first.0 first.1
 
--- a new table has 1 to 64 columns
+-- a new table has 1 to 64 columns of distinct names
 abbrev pub HasColumns : Statement → Type 0
-HasColumns (statement.Create name columns) = (0 < length columns) × (length columns ≤ 64)
+HasColumns (statement.Create name columns) = (0 < length columns) × (length columns ≤ 64) × IsTrue (are_distinct same_names (map (λ c. c.name) columns))
 HasColumns _ = Unit {0}

@@ -1,5 +1,5 @@
 pub mod Answering
 mod Examples
-pub mod Rows
+pub mod Fitting
 pub mod Running
 pub mod Serving

@@ -9,8 +9,9 @@ use Rattle.hq_io.specs.Told.{IfTold, WritesPrefix}
 use Rattle.hq_io.specs.Pieces.{Piece, pieces_of, ended_pieces}
 use Rattle.hq_io.specs.Reading.{Reading, ahead, pieces_given, Ends, EndsNone, Cuts, Breaks, PassesLimit, GivesAll}
 use Rattle.hq_reply.specs.declared.reply.Reply.{Reply}
-use Rattle.hq_server.specs.Tables.{Table}
-use Rattle.hq_server.specs.Course.{Moment, Course, reply_to, tables_after, text_of, reply_at, going_on, course, pieces_in, Transcript, Answers}
+use Rattle.hq_table.specs.Kept.{TableState}
+use Rattle.hq_server.specs.Stands.{Stands}
+use Rattle.hq_server.specs.Course.{Moment, Course, text_of, reply_at, going_on, course, pieces_in, Transcript, AnswersKept}
 use Rattle.hq_server.specs.Ending.{IsOverLimit, TranscriptGiven, TranscriptWithin, ServesOnto, Ended, Served}
 use Rattle.hq_server.specs.declared.why.EndWhy.TheVariants as whys
 
@@ -51,10 +52,10 @@ Ends-none a = record { bytes = []; taken = refl; ended = λ more. refl }
 
 serve-fresh : (left given : Option (List ℕ)) → IfTold left (prepend_known [] left) (Served given given [] (record { held = []; ended = false; text = []; pieces = 0; taken = 0 }))
 serve-fresh None given = tt
-serve-fresh (Some xs) given = record { moments = []; written = Appends-none given; tables_are = refl; pieces = refl; count = refl; bytes = omega arith; ends = λ _. Ends-none xs }
+serve-fresh (Some xs) given = record { moments = []; written = Appends-none given; stands = tt; pieces = refl; count = refl; bytes = omega arith; ends = λ _. Ends-none xs }
 
-pub serve-new : (left given : Option (List ℕ)) (tables : List Table) (reader : Reading) → tables ≡ [] → reader ≡ record { held = []; ended = false; text = []; pieces = 0; taken = 0 } → IfTold left (ahead reader left) (Served given given tables reader)
-serve-new left given tables reader t e = rw (e, t) (serve-fresh left given)
+pub serve-new : (left given : Option (List ℕ)) (kept : List TableState) (reader : Reading) → kept ≡ [] → reader ≡ record { held = []; ended = false; text = []; pieces = 0; taken = 0 } → IfTold left (ahead reader left) (Served given given kept reader)
+serve-new left given kept reader t e = rw (e, t) (serve-fresh left given)
 
 -- the one piece that an answer other than the end and the limit gives
 abbrev Given : Kind → List ℕ → Type 0
@@ -68,78 +69,80 @@ one-piece kinds.End text e l = absurd (e refl)
 one-piece kinds.Limit text e l = absurd (l refl)
 
 -- a piece that was answered, as a moment behind others
-abbrev Behind : List Moment → Piece → Option Reply → List Table → Type 0
-Behind ms piece reply tables' = (missed : Bool) × (reply ≡ reply_at (course ms) (piece, missed)) × (tables' ≡ (course (ms ++ (piece, missed) ∷ [])).tables)
+abbrev Behind : List Moment → Piece → Option Reply → List TableState → Type 0
+Behind ms piece reply kept' = (missed : Bool) × (reply ≡ reply_at (course ms) (piece, missed)) × Stands kept' (course (ms ++ (piece, missed) ∷ [])).tables
 
-behind : (ms : List Moment) (piece : Piece) (tables tables' : List Table) (reply : Option Reply) → tables ≡ (course ms).tables → Answers (piece ∷ []) tables reply tables' → Behind ms piece reply tables'
-behind ms piece tables tables' reply same (missed, is, left) = (missed, is ∙ ap (λ ts. reply_to missed ts piece) same, left ∙ ap (λ ts. tables_after missed ts piece) same ∙ ap (λ (c : Course). c.tables) (sym (course-push ms (piece, missed))))
+behind : (ms : List Moment) (piece : Piece) (kept kept' : List TableState) (reply : Option Reply) → Stands kept (course ms).tables → AnswersKept (piece ∷ []) kept reply kept' → Behind ms piece reply kept'
+behind ms piece kept kept' reply stands answered =
+    let a = answered (course ms).tables stands in
+    (a.1.0, a.1.1, subst (Stands kept') (a.1.2 ∙ ap (λ (c : Course). c.tables) (sym (course-push ms (piece, a.1.0)))) a.2)
 
 written-push : (ms : List Moment) (m : Moment) → (course (ms ++ m ∷ [])).written ≡ (course ms).written ++ text_of (reply_at (course ms) m)
 written-push ms m = ap (λ (c : Course). c.written) (course-push ms m)
 
-more-told : (first now next : Option (List ℕ)) (tables tables' : List Table) (kind : Kind) (old new : Reading) (whole before after : List ℕ) (piece : Piece) (reply : Option Reply)
+more-told : (first now next : Option (List ℕ)) (kept kept' : List TableState) (kind : Kind) (old new : Reading) (whole before after : List ℕ) (piece : Piece) (reply : Option Reply)
     → pieces_given kind new.text ≡ piece ∷ [] → old.ended ≡ false → new.pieces ≡ old.pieces + length (pieces_given kind new.text)
-    → Answers (piece ∷ []) tables reply tables' → Appends now next (text_of reply)
-    → Served first now tables old whole before → Cuts kind old new before after → Served first next tables' new whole after
-more-told first now next tables tables' kind old new whole before after piece reply one live counted answered wrote s c =
-    let b = behind s.moments piece tables tables' reply s.tables_are answered in
+    → AnswersKept (piece ∷ []) kept reply kept' → Appends now next (text_of reply)
+    → Served first now kept old whole before → Cuts kind old new before after → Served first next kept' new whole after
+more-told first now next kept kept' kind old new whole before after piece reply one live counted answered wrote s c =
+    let b = behind s.moments piece kept kept' reply s.stands answered in
     let m : Moment = (piece, b.0) in
     let given : pieces_given kind new.text ≡ piece ∷ [] = one in
     let ps : pieces_in (s.moments ++ m ∷ []) ≡ pieces_in s.moments ++ piece ∷ [] = pieces_in-push s.moments m in
     record {
       moments = s.moments ++ m ∷ [];
       written = Appends-then first now next (course s.moments).written (text_of reply) s.written wrote ∙ ap (λ t. append_known first ((course s.moments).written ++ t)) (ap text_of b.1) ∙ ap (append_known first) (sym (written-push s.moments m));
-      tables_are = b.2;
+      stands = b.2;
       pieces = s.pieces ∙ ap (λ r. pieces_in s.moments ++ r) (c.pieces ∙ ap (λ g. g ++ pieces_of after) given) ∙ sym (append_assoc (pieces_in s.moments) (piece ∷ []) (pieces_of after)) ∙ ap (λ r. r ++ pieces_of after) (sym ps);
       count = omega (arith, length-append s.moments (m ∷ []), s.count, counted, ap length given);
       bytes = omega (arith, s.bytes, c.taken);
       ends = λ going. subst (λ r. Ends r whole after) (sym ps) (Ends-then (pieces_in s.moments) (piece ∷ []) whole before after (s.ends live) (subst (λ g. Ends g before after) given (c.ended going)));
     }
 
-pub serve-more : (whole a b first now next : Option (List ℕ)) (tables tables' : List Table) (kind : Kind) (old new : Reading) (reply : Option Reply)
+pub serve-more : (whole a b first now next : Option (List ℕ)) (kept kept' : List TableState) (kind : Kind) (old new : Reading) (reply : Option Reply)
     → kind ≢ kinds.End → kind ≢ kinds.Limit → old.ended ≡ false → new.pieces ≡ old.pieces + length (pieces_given kind new.text)
-    → Answers (pieces_given kind new.text) tables reply tables' → Appends now next (text_of reply)
-    → IfTold whole a (Served first now tables old) → IfTold a b (Cuts kind old new) → IfTold whole b (Served first next tables' new)
-serve-more None a b first now next tables tables' kind old new reply e l live p w v s c = tt
-serve-more (Some xs) None b first now next tables tables' kind old new reply e l live p w v s c = absurd s
-serve-more (Some xs) (Some ys) None first now next tables tables' kind old new reply e l live p w v s c = absurd c
-serve-more (Some xs) (Some ys) (Some zs) first now next tables tables' kind old new reply e l live p w v s c =
+    → AnswersKept (pieces_given kind new.text) kept reply kept' → Appends now next (text_of reply)
+    → IfTold whole a (Served first now kept old) → IfTold a b (Cuts kind old new) → IfTold whole b (Served first next kept' new)
+serve-more None a b first now next kept kept' kind old new reply e l live p w v s c = tt
+serve-more (Some xs) None b first now next kept kept' kind old new reply e l live p w v s c = absurd s
+serve-more (Some xs) (Some ys) None first now next kept kept' kind old new reply e l live p w v s c = absurd c
+serve-more (Some xs) (Some ys) (Some zs) first now next kept kept' kind old new reply e l live p w v s c =
     let one = one-piece kind new.text e l in
-    more-told first now next tables tables' kind old new xs ys zs one.0 reply one.1 live p (subst (λ g. Answers g tables reply tables') one.1 w) v s c
+    more-told first now next kept kept' kind old new xs ys zs one.0 reply one.1 live p (subst (λ g. AnswersKept g kept reply kept') one.1 w) v s c
 
 -- the bytes of the replies so far
 abbrev Written : List Moment → List ℕ
 Written moments = (course moments).written
 
 -- the input was read to its end
-end-told : (first now : Option (List ℕ)) (tables : List Table) (old new : Reading) (whole before : List ℕ) (s : Served first now tables old whole before) → Cuts kinds.End old new before [] → Transcript (pieces_of whole) (Written s.moments)
-end-told first now tables old new whole before s c =
+end-told : (first now : Option (List ℕ)) (kept : List TableState) (old new : Reading) (whole before : List ℕ) (s : Served first now kept old whole before) → Cuts kinds.End old new before [] → Transcript (pieces_of whole) (Written s.moments)
+end-told first now kept old new whole before s c =
     (s.moments, sym (s.pieces ∙ ap (λ r. pieces_in s.moments ++ r) c.pieces ∙ append-nil (pieces_in s.moments)), refl)
 
-end-within : (first now : Option (List ℕ)) (tables : List Table) (old new : Reading) (whole before : List ℕ) → old.pieces ≤ 100000 → new.taken ≤ 2 ^ 32 → Served first now tables old whole before → Cuts kinds.End old new before [] → IsOverLimit whole → ⊥
-end-within first now tables old new whole before few short s c (inl more) =
+end-within : (first now : Option (List ℕ)) (kept : List TableState) (old new : Reading) (whole before : List ℕ) → old.pieces ≤ 100000 → new.taken ≤ 2 ^ 32 → Served first now kept old whole before → Cuts kinds.End old new before [] → IsOverLimit whole → ⊥
+end-within first now kept old new whole before few short s c (inl more) =
     omega (arith, more, few, s.count, length-pieces_in s.moments, ap length s.pieces, length-append (pieces_in s.moments) (pieces_of before), ap length c.pieces)
-end-within first now tables old new whole before few short s c (inr more) = omega (arith, more, short, s.bytes, c.taken)
+end-within first now kept old new whole before few short s c (inr more) = omega (arith, more, short, s.bytes, c.taken)
 
 ahead-over : (reader : Reading) (left : Option (List ℕ)) → reader.ended ≡ true → ahead reader left ≡ Some []
 ahead-over reader left e = rw e refl
 
-pub Ended-end : (whole a left left' first now : Option (List ℕ)) (tables : List Table) (old new : Reading) → new.ended ≡ true → old.pieces ≤ 100000 → new.taken ≤ 2 ^ 32
-    → IfTold whole a (Served first now tables old) → IfTold a (ahead new left') (Cuts kinds.End old new) → Ended whys.End whole left first now
-Ended-end whole a left left' first now tables old new over few short s c = record {
+pub Ended-end : (whole a left left' first now : Option (List ℕ)) (kept : List TableState) (old new : Reading) → new.ended ≡ true → old.pieces ≤ 100000 → new.taken ≤ 2 ^ 32
+    → IfTold whole a (Served first now kept old) → IfTold a (ahead new left') (Cuts kinds.End old new) → Ended whys.End whole left first now
+Ended-end whole a left left' first now kept old new over few short s c = record {
   served = by whole a s (subst (λ o. IfTold a o (Cuts kinds.End old new)) (ahead-over new left' over) c);
   memory = λ e. absurd (cc);
 }
   where
-    by : (whole a : Option (List ℕ)) → IfTold whole a (Served first now tables old) → IfTold a (Some []) (Cuts kinds.End old new) → IfSome whole (ServesOnto whys.End left first now)
+    by : (whole a : Option (List ℕ)) → IfTold whole a (Served first now kept old) → IfTold a (Some []) (Cuts kinds.End old new) → IfSome whole (ServesOnto whys.End left first now)
     by None a s c = tt
     by (Some xs) None s c = absurd s
     by (Some xs) (Some ys) s c = (
       Written s.moments,
       s.written,
       record {
-        end = λ _. end-told first now tables old new xs ys s c;
-        within = λ _. end-within first now tables old new xs ys few short s c;
+        end = λ _. end-told first now kept old new xs ys s c;
+        within = λ _. end-within first now kept old new xs ys few short s c;
         source = λ e. absurd (cc);
         sink = λ e. absurd (cc);
         limit = λ e. absurd (cc);
@@ -156,18 +159,18 @@ given-more ps whole before after p n = (
   p.ended n.bytes ∙ ap (λ r. ps ++ r) n.none ∙ append-nil ps,
 )
 
-source-told : (first now : Option (List ℕ)) (tables : List Table) (old new : Reading) (whole before after : List ℕ) → old.ended ≡ false → (s : Served first now tables old whole before) → Breaks old new before after → TranscriptGiven (Written s.moments) whole after
-source-told first now tables old new whole before after live s b =
+source-told : (first now : Option (List ℕ)) (kept : List TableState) (old new : Reading) (whole before after : List ℕ) → old.ended ≡ false → (s : Served first now kept old whole before) → Breaks old new before after → TranscriptGiven (Written s.moments) whole after
+source-told first now kept old new whole before after live s b =
     let g = given-more (pieces_in s.moments) whole before after (s.ends live) b.none in
     (g.0, g.1, (s.moments, sym g.2, refl))
 
-pub Ended-source : (whole a left first now : Option (List ℕ)) (tables : List Table) (old new : Reading) → old.ended ≡ false → IfTold whole a (Served first now tables old) → IfTold a left (Breaks old new) → Ended whys.SourceFault whole left first now
-Ended-source whole a left first now tables old new live s b = record {
+pub Ended-source : (whole a left first now : Option (List ℕ)) (kept : List TableState) (old new : Reading) → old.ended ≡ false → IfTold whole a (Served first now kept old) → IfTold a left (Breaks old new) → Ended whys.SourceFault whole left first now
+Ended-source whole a left first now kept old new live s b = record {
   served = by whole a left s b;
   memory = λ e. absurd (cc);
 }
   where
-    by : (whole a left : Option (List ℕ)) → IfTold whole a (Served first now tables old) → IfTold a left (Breaks old new) → IfSome whole (ServesOnto whys.SourceFault left first now)
+    by : (whole a left : Option (List ℕ)) → IfTold whole a (Served first now kept old) → IfTold a left (Breaks old new) → IfSome whole (ServesOnto whys.SourceFault left first now)
     by None a left s b = tt
     by (Some xs) None left s b = absurd s
     by (Some xs) (Some ys) None s b = absurd b
@@ -177,7 +180,7 @@ Ended-source whole a left first now tables old new live s b = record {
       record {
         end = λ e. absurd (cc);
         within = λ e. absurd (cc);
-        source = λ _. source-told first now tables old new xs ys zs live s b;
+        source = λ _. source-told first now kept old new xs ys zs live s b;
         sink = λ e. absurd (cc);
         limit = λ e. absurd (cc);
         limited = λ e. absurd (cc);
@@ -185,23 +188,23 @@ Ended-source whole a left first now tables old new live s b = record {
       },
     )
 
-limit-over : (first now : Option (List ℕ)) (tables : List Table) (old : Reading) (whole before : List ℕ) → Served first now tables old whole before → PassesLimit old before → IsOverLimit whole
-limit-over first now tables old whole before s (inl l) = inl (omega (arith, s.count, length-pieces_in s.moments, ap length s.pieces, length-append (pieces_in s.moments) (pieces_of before), l.0, l.1))
-limit-over first now tables old whole before s (inr l) = inr (omega (arith, s.bytes, l))
+limit-over : (first now : Option (List ℕ)) (kept : List TableState) (old : Reading) (whole before : List ℕ) → Served first now kept old whole before → PassesLimit old before → IsOverLimit whole
+limit-over first now kept old whole before s (inl l) = inl (omega (arith, s.count, length-pieces_in s.moments, ap length s.pieces, length-append (pieces_in s.moments) (pieces_of before), l.0, l.1))
+limit-over first now kept old whole before s (inr l) = inr (omega (arith, s.bytes, l))
 
-limit-told : (first now : Option (List ℕ)) (tables : List Table) (old : Reading) (whole before : List ℕ) → old.ended ≡ false → (s : Served first now tables old whole before) → GivesAll old before → TranscriptWithin whole (Written s.moments)
-limit-told first now tables old whole before live s (inl g) = inl (pieces_in s.moments, pieces_of before, s.pieces, length-pieces_in s.moments ∙ s.count ∙ g, (s.moments, refl, refl))
-limit-told first now tables old whole before live s (inr (after, n, long)) =
+limit-told : (first now : Option (List ℕ)) (kept : List TableState) (old : Reading) (whole before : List ℕ) → old.ended ≡ false → (s : Served first now kept old whole before) → GivesAll old before → TranscriptWithin whole (Written s.moments)
+limit-told first now kept old whole before live s (inl g) = inl (pieces_in s.moments, pieces_of before, s.pieces, length-pieces_in s.moments ∙ s.count ∙ g, (s.moments, refl, refl))
+limit-told first now kept old whole before live s (inr (after, n, long)) =
     let g = given-more (pieces_in s.moments) whole before after (s.ends live) n in
     inr (g.0, after, g.1, omega (arith, s.bytes, long, ap length g.1, length-append g.0 after), (s.moments, sym g.2, refl))
 
-pub Ended-limit : (whole a left first now : Option (List ℕ)) (tables : List Table) (old : Reading) → old.ended ≡ false → IfTold whole a (Served first now tables old) → IfSome a (PassesLimit old) → IfSome a (GivesAll old) → Ended whys.InputLimit whole left first now
-Ended-limit whole a left first now tables old live s l g = record {
+pub Ended-limit : (whole a left first now : Option (List ℕ)) (kept : List TableState) (old : Reading) → old.ended ≡ false → IfTold whole a (Served first now kept old) → IfSome a (PassesLimit old) → IfSome a (GivesAll old) → Ended whys.InputLimit whole left first now
+Ended-limit whole a left first now kept old live s l g = record {
   served = by whole a s l g;
   memory = λ e. absurd (cc);
 }
   where
-    by : (whole a : Option (List ℕ)) → IfTold whole a (Served first now tables old) → IfSome a (PassesLimit old) → IfSome a (GivesAll old) → IfSome whole (ServesOnto whys.InputLimit left first now)
+    by : (whole a : Option (List ℕ)) → IfTold whole a (Served first now kept old) → IfSome a (PassesLimit old) → IfSome a (GivesAll old) → IfSome whole (ServesOnto whys.InputLimit left first now)
     by None a s l g = tt
     by (Some xs) None s l g = absurd s
     by (Some xs) (Some ys) s l g = (
@@ -212,18 +215,18 @@ Ended-limit whole a left first now tables old live s l g = record {
         within = λ e. absurd (cc);
         source = λ e. absurd (cc);
         sink = λ e. absurd (cc);
-        limit = λ _. limit-over first now tables old xs ys s l;
-        limited = λ _. limit-told first now tables old xs ys live s g;
+        limit = λ _. limit-over first now kept old xs ys s l;
+        limited = λ _. limit-told first now kept old xs ys live s g;
         memory = λ e. absurd (cc);
       },
     )
 
 -- a reply of which a prefix was written
-part-told : {E : Type 0} (left first now next : Option (List ℕ)) (tables tables' : List Table) (kind : Kind) (old new : Reading) (whole before after : List ℕ) (piece : Piece) (reply : Option Reply) (result : Result Unit E)
-    → pieces_given kind new.text ≡ piece ∷ [] → Answers (piece ∷ []) tables reply tables' → WritesPrefix now next result (text_of reply)
-    → Served first now tables old whole before → Cuts kind old new before after → ServesOnto whys.SinkFault left first next whole
-part-told left first now next tables tables' kind old new whole before after piece reply result one answered w s c =
-    let b = behind s.moments piece tables tables' reply s.tables_are answered in
+part-told : {E : Type 0} (left first now next : Option (List ℕ)) (kept kept' : List TableState) (kind : Kind) (old new : Reading) (whole before after : List ℕ) (piece : Piece) (reply : Option Reply) (result : Result Unit E)
+    → pieces_given kind new.text ≡ piece ∷ [] → AnswersKept (piece ∷ []) kept reply kept' → WritesPrefix now next result (text_of reply)
+    → Served first now kept old whole before → Cuts kind old new before after → ServesOnto whys.SinkFault left first next whole
+part-told left first now next kept kept' kind old new whole before after piece reply result one answered w s c =
+    let b = behind s.moments piece kept kept' reply s.stands answered in
     let part : List ℕ = take w.count (text_of reply) in (
       Written s.moments ++ part,
       Appends-then first now next (Written s.moments) part s.written w.appended,
@@ -247,21 +250,21 @@ part-told left first now next tables tables' kind old new whole before after pie
       },
     )
 
-pub Ended-sink : {E : Type 0} (whole a b left first now next : Option (List ℕ)) (tables tables' : List Table) (kind : Kind) (old new : Reading) (reply : Option Reply) (result : Result Unit E)
-    → kind ≢ kinds.End → kind ≢ kinds.Limit → Answers (pieces_given kind new.text) tables reply tables' → WritesPrefix now next result (text_of reply)
-    → IfTold whole a (Served first now tables old) → IfTold a b (Cuts kind old new) → Ended whys.SinkFault whole left first next
-Ended-sink whole a b left first now next tables tables' kind old new reply result e l w v s c = record {
+pub Ended-sink : {E : Type 0} (whole a b left first now next : Option (List ℕ)) (kept kept' : List TableState) (kind : Kind) (old new : Reading) (reply : Option Reply) (result : Result Unit E)
+    → kind ≢ kinds.End → kind ≢ kinds.Limit → AnswersKept (pieces_given kind new.text) kept reply kept' → WritesPrefix now next result (text_of reply)
+    → IfTold whole a (Served first now kept old) → IfTold a b (Cuts kind old new) → Ended whys.SinkFault whole left first next
+Ended-sink whole a b left first now next kept kept' kind old new reply result e l w v s c = record {
   served = by whole a b s c;
   memory = λ e. absurd (cc);
 }
   where
-    by : (whole a b : Option (List ℕ)) → IfTold whole a (Served first now tables old) → IfTold a b (Cuts kind old new) → IfSome whole (ServesOnto whys.SinkFault left first next)
+    by : (whole a b : Option (List ℕ)) → IfTold whole a (Served first now kept old) → IfTold a b (Cuts kind old new) → IfSome whole (ServesOnto whys.SinkFault left first next)
     by None a b s c = tt
     by (Some xs) None b s c = absurd s
     by (Some xs) (Some ys) None s c = absurd c
     by (Some xs) (Some ys) (Some zs) s c =
         let one = one-piece kind new.text e l in
-        part-told left first now next tables tables' kind old new xs ys zs one.0 reply result one.1 (subst (λ g. Answers g tables reply tables') one.1 w) v s c
+        part-told left first now next kept kept' kind old new xs ys zs one.0 reply result one.1 (subst (λ g. AnswersKept g kept reply kept') one.1 w) v s c
 
 pub Ended-memory : (whole first : Option (List ℕ)) → Ended whys.NoMemory whole whole first first
 Ended-memory whole first = record {

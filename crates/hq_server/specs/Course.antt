@@ -11,7 +11,9 @@ use Rattle.hq_reply.specs.declared.reply.Reply.{Reply}
 use Rattle.hq_reply.specs.declared.reply.Reply.TheVariants.{Error}
 use Rattle.hq_reply.specs.declared.fault.Fault.TheVariants as fault
 use Rattle.hq_reply.specs.Texts.{reply_text}
+use Rattle.hq_table.specs.Kept.{TableState}
 use Rattle.hq_server.specs.Tables.{Table, reply_of, after}
+use Rattle.hq_server.specs.Stands.{Stands}
 
 abbrev pub reply_to : Bool → List Table → Piece → Option Reply
 reply_to missed tables (statement text) =
@@ -67,6 +69,10 @@ abbrev pub Answers : List Piece → List Table → Option Reply → List Table �
 Answers [] old reply new = (reply ≡ None) × (new ≡ old)
 Answers (piece ∷ pieces) old reply new = Answered piece old reply new
 
+-- the piece was answered over the tables that what is kept stands for, and what is kept then stands for those after
+abbrev pub AnswersKept : List Piece → List TableState → Option Reply → List TableState → Type 0
+AnswersKept pieces old reply new = (tables : List Table) → Stands old tables → (left : List Table) × Answers pieces tables reply left × Stands new left
+
 -- the piece was answered, and a prefix of the reply's text was written, all of it at Ok
-abbrev pub AnswersInto : {E : Type 0} → Result Unit E → List Piece → List Table → List Table → Option (List ℕ) → Option (List ℕ) → Type 0
-AnswersInto result pieces old new given given' = (reply : Option Reply) × Answers pieces old reply new × WritesPrefix given given' result (text_of reply)
+abbrev pub AnswersInto : {E : Type 0} → Result Unit E → List Piece → List TableState → List TableState → Option (List ℕ) → Option (List ℕ) → Type 0
+AnswersInto result pieces old new given given' = (reply : Option Reply) × AnswersKept pieces old reply new × WritesPrefix given given' result (text_of reply)

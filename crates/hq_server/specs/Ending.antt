@@ -5,7 +5,8 @@ use Rattle.hq_value.specs.Causes.{Rose}
 use Rattle.hq_io.specs.Told.{IfTold}
 use Rattle.hq_io.specs.Pieces.{Piece, pieces_of, ended_pieces}
 use Rattle.hq_io.specs.Reading.{Reading, Ends}
-use Rattle.hq_server.specs.Tables.{Table}
+use Rattle.hq_table.specs.Kept.{TableState}
+use Rattle.hq_server.specs.Stands.{Stands}
 use Rattle.hq_server.specs.Course.{Moment, course, pieces_in, reply_at, text_of, Transcript}
 use Rattle.hq_server.specs.declared.why.EndWhy.{EndWhy}
 use Rattle.hq_server.specs.declared.why.EndWhy.TheVariants.{End, SourceFault, SinkFault, InputLimit, NoMemory}
@@ -61,10 +62,10 @@ pub record Ended (why : EndWhy) (whole left first now : Option (List ℕ)) : Typ
   pub memory : why ≡ NoMemory → (now ≡ first) × (left ≡ whole)
 
 -- the replies so far, and what is still to be cut
-pub record Served (first now : Option (List ℕ)) (tables : List Table) (reader : Reading) (whole rest : List ℕ) : Type 0 where
+pub record Served (first now : Option (List ℕ)) (kept : List TableState) (reader : Reading) (whole rest : List ℕ) : Type 0 where
   pub moments : List Moment
   pub written : now ≡ append_known first (course moments).written
-  pub tables_are : tables ≡ (course moments).tables
+  pub stands : Stands kept (course moments).tables
   pub pieces : pieces_of whole ≡ pieces_in moments ++ pieces_of rest
   pub count : length moments ≡ reader.pieces
   pub bytes : reader.taken + length rest ≡ length whole

@@ -1,7 +1,7 @@
 pub mod Course
 pub mod Ending
 pub mod Fits
-pub mod Numbers
 pub mod Places
 pub mod Run
+pub mod Stands
 pub mod Tables

@@ -2,7 +2,7 @@
 --     reply_of tables s       the reply to a statement
 --     after tables s          the tables that it leaves
 --     IsAnswer ..             a reply is that, or there was no memory and nothing changed
-use Rattle.std.specs.Prelude.{◌≡◌, ◌⊎◌, ◌==◌, ◌&&◌, ◌+◌, ℕ, Bool, List, [], ◌∷◌, ◌++◌, length, nat_le, is_some, Option, Some, None, if◌then◌else◌}
+use Rattle.std.specs.Prelude.{◌≡◌, ◌⊎◌, ◌+◌, ℕ, Bool, List, [], ◌∷◌, ◌++◌, length, map, nat_le, is_some, Option, Some, None, if◌then◌else◌}
 use Rattle.std.specs.List.{list_all}
 use Rattle.std.specs.Str.{bytes_eq}
 use Rattle.hq_value.specs.declared.value.Value.{Value}
@@ -13,7 +13,7 @@ use Rattle.hq_forms.specs.declared.form.Statement.TheVariants as statement
 use Rattle.hq_reply.specs.declared.reply.Reply.{Reply}
 use Rattle.hq_reply.specs.declared.reply.Reply.TheVariants.{Rows, Inserted, Created, Error}
 use Rattle.hq_reply.specs.declared.fault.Fault.TheVariants as fault
-use Rattle.hq_server.specs.Fits.{are_numbers}
+use Rattle.hq_server.specs.Fits.{fits}
 
 -- a table: its name, its columns, and its rows in the order in which they were inserted
 pub record Table : Type 0 where
@@ -27,10 +27,6 @@ is_named name table = bytes_eq table.name name
 abbrev pub table_named : List ℕ → List Table → Option Table
 table_named name [] = None
 table_named name (table ∷ tables) = if is_named name table then Some table else table_named name tables
-
--- as many values as columns, each a number
-abbrev pub fits : List Column → List Value → Bool
-fits columns row = (length row == length columns) && are_numbers row
 
 abbrev pub with_rows : List (List Value) → Table → Table
 with_rows rows table = record table { rows = table.rows ++ rows }
@@ -75,11 +71,14 @@ after tables (Some (statement.Select name)) = tables
 abbrev pub IsAnswer : Option Statement → List Table → Reply → List Table → Type 0
 IsAnswer s old reply new = ((reply ≡ reply_of old s) × (new ≡ after old s)) ⊎ ((reply ≡ Error fault.NoMemory) × (new ≡ old))
 
--- the place of the first table of this name
+-- the place of the first of these names that is this one
 abbrev pub one_more : Option ℕ → Option ℕ
 one_more (Some n) = Some (n + 1)
 one_more None = None
 
-abbrev pub place_of : List ℕ → List Table → Option ℕ
+abbrev pub place_of : List ℕ → List (List ℕ) → Option ℕ
 place_of name [] = None
-place_of name (table ∷ tables) = if is_named name table then Some 0 else one_more (place_of name tables)
+place_of name (first ∷ names) = if bytes_eq first name then Some 0 else one_more (place_of name names)
+
+abbrev pub names : List Table → List (List ℕ)
+names tables = map (λ (table : Table). table.name) tables

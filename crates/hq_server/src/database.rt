@@ -1,22 +1,28 @@
 //! Tables in memory and the answers to statements over them.
-ghost use Rattle.std.specs.Prelude.{◌≡◌, ◌<◌, ◌≤◌, ◌++◌, ◌∷◌, [], length, Some, IfSome, IfOk, OnOk, OnErr};
+ghost use Rattle.std.specs.Prelude.{◌≡◌, ◌<◌, ◌≤◌, ◌++◌, ◌∷◌, [], length, map, Some, IsTrue, IfSome, IfOk, OnOk, OnErr};
 ghost use Rattle.hq_value.specs.Order.{in_row_order};
+ghost use Rattle.hq_value.specs.Tables.{are_distinct, same_names};
+ghost use Rattle.hq_table.specs.Kept.{TableState, Buckets, Keeps, rows_of};
+ghost use Rattle.hq_table.specs.Home.{IsQuiet};
 ghost use Rattle.hq_server.specs.Tables.{place_of};
 ghost use Rattle.hq_server.specs.Places.{Inserts, Selects};
+ghost use Rattle.hq_server.specs.Stands.{IsEmpty, kept_names};
 
-use crate::files;
-use crate::table::Table;
 use hq_forms::{FormFault, Statement, read_statement};
 use hq_reply::{Fault, Reply};
 use hq_store::MemStore;
-use hq_value::{Columns, Name, NoMemory, Row, Sequence, sort_in_row_order};
+use hq_table::{Table, shares_are_the_rows};
+use hq_value::{
+    Columns, Keys, Name, NoMemory, Row, Sequence, TableDef, sort_in_row_order,
+    sorting_forgets_the_order,
+};
 use std::alloc::Global;
 use std::marker::Model;
 
 /// The most tables that there may be.
 const MOST_TABLES: usize = 64;
 
-/// The tables of a session, seen as their list in the order in which they were made.
+/// The tables of a session, seen as they are kept, in the order in which they were made.
 #[derive(Drop)]
 pub struct Database {
     store: MemStore,
@@ -24,18 +30,19 @@ pub struct Database {
 }
 
 impl Model for Database {
-    ghost use Rattle.std.specs.Prelude.{◌≡◌, [], List};
-    ghost use Rattle.hq_server.specs.Tables.{Table as Data};
+    ghost use Rattle.std.specs.Prelude.{List};
+    ghost use Rattle.hq_table.specs.Kept.{TableState};
+    ghost use Rattle.hq_table.specs.Home.{IsQuiet};
 
-    ghost Value = { List Data };
+    ghost Value = { List TableState };
 
     ghost view = { λ d. d.tables.items };
 
-    ghost invariant = { λ d. d.store.plan ≡ [] };
+    ghost invariant = { λ d. IsQuiet d.store };
 }
 
 impl Database {
-    ghost use Rattle.hq_server.specs.Tables.{IsAnswer};
+    ghost use Rattle.hq_server.specs.Stands.{AnswersTo};
     ghost use Rattle.hq_forms.specs.Forms.{statement_of, HasColumns};
 
     /// No tables.
@@ -50,20 +57,20 @@ impl Database {
 
     /// The reply to a statement's text. Without memory it is that fault, and nothing changes.
     pub fn answer(&mut self, alloc: Global, text: &[u8]) -> Reply
-        ensures { IsAnswer (statement_of text.now) self.old result self.new }
+        ensures { AnswersTo (statement_of text.now) self.old result self.new }
     {
         match read_statement(alloc, text) {
-            Ok(Statement::Create { name, columns }) => self.create(name, columns),
-            Ok(Statement::Insert { name, rows }) => self.insert(alloc, &name, &rows),
+            Ok(Statement::Create { name, columns }) => self.create(alloc, name, columns),
+            Ok(Statement::Insert { name, rows }) => self.insert(alloc, &name, rows),
             Ok(Statement::Select { name }) => self.select(alloc, &name),
             Err(FormFault::Syntax) => Reply::Error(Fault::Syntax),
             Err(FormFault::NoMemory) => Reply::Error(Fault::NoMemory),
         }
     }
 
-    fn create(&mut self, name: Name, columns: Columns) -> Reply
+    fn create(&mut self, alloc: Global, name: Name, columns: Columns) -> Reply
         requires { HasColumns (Statement.Create name columns) }
-        ensures { IsAnswer (Some (Statement.Create name columns)) self.old result self.new }
+        ensures { AnswersTo (Some (Statement.Create name columns)) self.old result self.new }
     {
         if place_of(&self.tables, &name).is_some() {
             return Reply::Error(Fault::TableExists);
@@ -71,32 +78,34 @@ impl Database {
         if self.tables.len() >= MOST_TABLES {
             return Reply::Error(Fault::TooManyTables);
         }
-        match add_table(&mut self.store, &mut self.tables, name, columns) {
+        match add_table(alloc, &mut self.tables, name, columns) {
             Ok(()) => Reply::Created,
             Err(NoMemory) => Reply::Error(Fault::NoMemory),
         }
     }
 
-    fn insert(&mut self, alloc: Global, name: &Name, rows: &Sequence<Row>) -> Reply
-        ensures { IsAnswer (Some (Statement.Insert name.now rows.now)) self.old result self.new }
+    fn insert(&mut self, alloc: Global, name: &Name, rows: Sequence<Row>) -> Reply
+        ensures { AnswersTo (Some (Statement.Insert name.now rows)) self.old result self.new }
     {
+        shares_are_the_rows();
         match place_of(&self.tables, name) {
             Some(place) => insert_at(
                 alloc,
                 &mut self.store,
                 &mut self.tables,
                 place,
-                rows.as_slice(),
+                rows.into_vec(),
             ),
             None => Reply::Error(Fault::UndefinedTable),
         }
     }
 
     fn select(&mut self, alloc: Global, name: &Name) -> Reply
-        ensures { IsAnswer (Some (Statement.Select name.now)) self.old result self.new }
+        ensures { AnswersTo (Some (Statement.Select name.now)) self.old result self.new }
     {
+        sorting_forgets_the_order();
         match place_of(&self.tables, name) {
-            Some(place) => select_at(alloc, &mut self.store, &mut self.tables, place),
+            Some(place) => select_at(alloc, &mut self.store, &self.tables, place),
             None => Reply::Error(Fault::UndefinedTable),
         }
     }
@@ -104,7 +113,7 @@ impl Database {
 
 // The place of the first table of this name.
 fn place_of(tables: &[Table], name: &Name) -> Option<usize>
-    ensures place { result ≡ place_of name.now tables.now }
+    ensures place { result ≡ place_of name.now (kept_names tables.now) }
     ensures within { IfSome result (λ place. place < length tables.now) }
 {
     match tables {
@@ -123,21 +132,25 @@ fn place_of(tables: &[Table], name: &Name) -> Option<usize>
 
 // Adds a table with no rows.
 fn add_table(
-    store: &mut MemStore,
+    alloc: Global,
     tables: &mut Vec<Table>,
     name: Name,
     columns: Columns,
 ) -> Result<(), NoMemory>
-    requires plan { store.old.plan ≡ [] }
     requires some { 0 < length columns }
     requires few { length columns ≤ 64 }
+    requires distinct { IsTrue (are_distinct same_names (map (λ c. c.name) columns)) }
     requires tables { length tables.old.items < 64 }
-    ensures ok { OnOk result (tables.new.items ≡ tables.old.items ++ record { name = name; columns = columns; rows = [] } ∷ []) }
+    ensures ok { OnOk result ((kept : TableState) × IsEmpty name columns kept × (tables.new.items ≡ tables.old.items ++ kept ∷ [])) }
     ensures err { OnErr result (tables.new.items ≡ tables.old.items) }
-    ensures store { store.new.plan ≡ store.old.plan }
 {
-    let file = files::create(store, tables.len() as u32)?;
-    match tables.push(Table::new(name, columns, file)) {
+    let def = TableDef {
+        name,
+        columns,
+        keys: Keys::new(alloc),
+    };
+    let table = Table::new(alloc, tables.len() as u32, def)?;
+    match tables.push(table) {
         Ok(()) => Ok(()),
         Err(_) => Err(NoMemory),
     }
@@ -149,43 +162,41 @@ fn insert_at(
     store: &mut MemStore,
     tables: &mut Vec<Table>,
     place: usize,
-    rows: &[Row],
+    rows: Vec<Row>,
 ) -> Reply
-    requires plan { store.old.plan ≡ [] }
+    requires quiet { IsQuiet store.old }
     requires place { place < length tables.old.items }
-    ensures answer { Inserts rows.now place tables.old.items result tables.new.items }
-    ensures store { store.new.plan ≡ store.old.plan }
+    ensures answer { Inserts rows.items place tables.old.items result tables.new.items }
+    ensures quiet { IsQuiet store.new }
 {
     let table = &mut tables[place];
-    if !table.fits(rows) {
+    let count = rows.len();
+    if !table.fits(&rows) {
         return Reply::Error(Fault::TypeMismatch);
     }
     match table.insert(alloc, store, rows) {
-        Ok(()) => Reply::Inserted(rows.len() as u64),
+        Ok(()) => Reply::Inserted(count as u64),
         Err(NoMemory) => Reply::Error(Fault::NoMemory),
     }
 }
 
 // The rows of the table at a place, in row order.
-fn select_at(alloc: Global, store: &mut MemStore, tables: &mut Vec<Table>, place: usize) -> Reply
-    requires plan { store.old.plan ≡ [] }
-    requires place { place < length tables.old.items }
-    ensures answer { Selects place tables.old.items result }
-    ensures same { tables.new.items ≡ tables.old.items }
-    ensures store { store.new.plan ≡ store.old.plan }
+fn select_at(alloc: Global, store: &mut MemStore, tables: &[Table], place: usize) -> Reply
+    requires quiet { IsQuiet store.old }
+    requires place { place < length tables.now }
+    ensures answer { Selects place tables.now result }
+    ensures quiet { IsQuiet store.new }
 {
-    let table = &mut tables[place];
-    match sorted(alloc, store, table) {
+    match sorted(alloc, store, &tables[place]) {
         Ok(rows) => Reply::Rows(rows),
         Err(NoMemory) => Reply::Error(Fault::NoMemory),
     }
 }
 
-fn sorted(alloc: Global, store: &mut MemStore, table: &mut Table) -> Result<Sequence<Row>, NoMemory>
-    requires plan { store.old.plan ≡ [] }
-    ensures rows { IfOk result (λ rows. rows ≡ in_row_order table.old.rows) }
-    ensures same { table.new ≡ table.old }
-    ensures store { store.new.plan ≡ store.old.plan }
+fn sorted(alloc: Global, store: &mut MemStore, table: &Table) -> Result<Sequence<Row>, NoMemory>
+    requires quiet { IsQuiet store.old }
+    ensures rows { IfOk result (λ rows. (kept : Buckets) → Keeps table.now kept → rows ≡ in_row_order (rows_of kept)) }
+    ensures quiet { IsQuiet store.new }
 {
     let mut rows = table.scan(alloc, store)?;
     sort_in_row_order(&mut rows)?;

@@ -2,11 +2,8 @@
 #![tactic(auto)]
 
 mod database;
-mod files;
-mod numbers;
 mod run;
 mod session;
-mod table;
 mod why;
 
 pub use hq_doors::{

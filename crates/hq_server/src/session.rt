@@ -4,7 +4,7 @@ ghost use Rattle.std.specs.declared.option.Option.{Option};
 ghost use Rattle.hq_value.specs.Causes.{HasCause};
 ghost use Rattle.hq_io.specs.Told.{IfTold, WritesPrefix};
 ghost use Rattle.hq_io.specs.Reading.{ahead, pieces_given};
-ghost use Rattle.hq_server.specs.Course.{Answers, AnswersInto, text_of};
+ghost use Rattle.hq_server.specs.Course.{AnswersKept, AnswersInto, text_of};
 ghost use Rattle.hq_server.specs.Ending.{Causes, Ended, MayEnd, Served};
 
 use crate::EndWhy;
@@ -16,7 +16,7 @@ use std::alloc::Global;
 
 // The reply to a piece; a blank one has none.
 fn reply_to(alloc: Global, database: &mut Database, kind: Kind, text: &[u8]) -> Option<Reply>
-    ensures { Answers (pieces_given kind text.now) database.old result database.new }
+    ensures { AnswersKept (pieces_given kind text.now) database.old result database.new }
 {
     match kind {
         Kind::Statement => statement_reply(alloc, database, text),
@@ -28,7 +28,7 @@ fn reply_to(alloc: Global, database: &mut Database, kind: Kind, text: &[u8]) -> 
 }
 
 fn statement_reply(alloc: Global, database: &mut Database, text: &[u8]) -> Option<Reply>
-    ensures { Answers (pieces_given Kind.Statement text.now) database.old result database.new }
+    ensures { AnswersKept (pieces_given Kind.Statement text.now) database.old result database.new }
 {
     if is_blank(text) {
         return None;
