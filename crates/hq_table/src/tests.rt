@@ -73,11 +73,9 @@ fn a_key_leads_to_its_bucket(rt: HostRuntime) -> Result<(), Fail> {
     };
     let mut table = Table::new(alloc, 0, def)?;
     assert!(rt; table.is_named(&Name::new(b"t".to_vec(alloc)?)));
-    for first in [1, 2, 3, 4] {
-        let given = rows(alloc, first, first + 1)?;
-        assert!(rt; table.fits(&given));
-        table.insert(alloc, &mut store, given)?;
-    }
+    let given = rows(alloc, 1, 5)?;
+    assert!(rt; table.fits(&given));
+    table.insert(alloc, &mut store, given)?;
     // Of 1 to 4 the buckets are 15, 2, 5 and 0.
     let found = table.scan(alloc, &mut store)?;
     assert!(rt; are(&found, &[4, 2, 3, 1]));
