@@ -1,0 +1,10 @@
+pub mod State
+pub mod Words
+pub mod Reader
+pub mod Grammar
+pub mod Reading
+pub mod Whole
+pub mod Parts
+pub mod Lists
+pub mod Uses
+pub mod Lexemes
