@@ -34,3 +34,6 @@ pub use marks::are_marks;
 pub use tree::{AggregateKind, ArithKind, ColumnRef, CompareKind, Literal, SqlExpr};
 pub use uses::{Uses, uses_of};
 pub use whole::{condition, item_sum, value};
+
+#[cfg(test)]
+mod tests;
