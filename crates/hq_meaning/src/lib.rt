@@ -1,0 +1,2 @@
+//! What operators give of rows, and what queries and plans mean.
+#![tactic(auto)]
