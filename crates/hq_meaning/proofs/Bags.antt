@@ -1,12 +1,11 @@
 -- What depends on a list of rows only as a bag.
-use Rattle.std.proofs.Common.{flat_map, ◌≡◌, ℕ, ◌+◌, Bool, true, false, not, ◌||◌, cond, if◌then◌else◌, List, [], ◌∷◌, ◌++◌, map, filter, refl, sym, ◌∙◌, ap, arith}
+use Rattle.std.proofs.Common.{flat_map, ◌≡◌, ℕ, ◌+◌, Bool, true, false, not, ◌||◌, cond, List, [], ◌∷◌, ◌++◌, map, filter, refl, sym, ◌∙◌, ap, arith}
 use Rattle.std.specs.List.{list_any}
 use Rattle.std.specs.Ordering.{is_gt, is_eq}
 use Rattle.std.specs.declared.cmp.Ordering.{Ordering}
 use Rattle.std.specs.declared.cmp.Ordering.TheVariants.{Less, Equal, Greater}
 use Rattle.std.proofs.lemmas.Cmp.{tied_itself}
-use Rattle.hq_value.specs.declared.value.Value.{Value}
-use Rattle.hq_value.specs.Sorting.{with_item, sorted_by, times}
+use Rattle.hq_value.specs.Sorting.{with_item, times}
 use Rattle.hq_value.specs.Order.{row_cmp, in_row_order, SameBag}
 use Rattle.hq_value.proofs.Order.{row_total, row_exact, in_row_order-SameBag}
 use Rattle.hq_value.proofs.Sorting.{times-append}

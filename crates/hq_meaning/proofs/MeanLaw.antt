@@ -1,26 +1,25 @@
 -- A query means the same over tables that have the same rows.
-use Rattle.std.proofs.Common.{◌≡◌, ℕ, zero, suc, length, Bool, true, false, cond, ◌||◌, List, [], ◌∷◌, ◌++◌, map, filter, Option, Some, None, take, refl, sym, ◌∙◌, ap}
-use Rattle.std.specs.List.{list_any, list_all}
-use Rattle.std.specs.Ordering.{then_cmp, on, flip_args, ordering_then}
+use Rattle.std.proofs.Common.{◌≡◌, ℕ, zero, suc, length, Bool, true, false, cond, ◌||◌, List, [], ◌∷◌, ◌++◌, map, refl, ◌∙◌, ap}
+use Rattle.std.specs.List.{list_any}
+use Rattle.std.specs.Ordering.{on, flip_args, ordering_then}
 use Rattle.std.specs.Cmp.{IsTotalOrder}
 use Rattle.std.specs.declared.cmp.Ordering.{Ordering}
 use Rattle.std.specs.declared.cmp.Ordering.TheVariants.{Less, Equal, Greater}
 use Rattle.std.proofs.lemmas.Cmp.{on_total, then_total, back_total}
 use Rattle.std.proofs.lemmas.Map.Lookups.{CmpEqualImpliesEq}
 use Rattle.hq_value.specs.declared.value.Value.{Value}
-use Rattle.hq_value.specs.Sorting.{with_item, sorted_by}
-use Rattle.hq_value.specs.Order.{value_cmp, row_cmp, SameBag}
+use Rattle.hq_value.specs.Sorting.{with_item}
+use Rattle.hq_value.specs.Order.{value_cmp, SameBag}
 use Rattle.hq_value.proofs.Order.{value_total, row_total, row_exact}
 use Rattle.hq_value.proofs.Sorting.{commute}
 use Rattle.hq_algebra.specs.declared.aggregate.Aggregate.{Aggregate}
-use Rattle.hq_algebra.specs.declared.expr.Expr.{Expr}
 use Rattle.hq_algebra.specs.declared.op.SortKey.{SortKey}
 use Rattle.hq_algebra.specs.declared.query.Query.{Query}
 use Rattle.hq_algebra.specs.Eval.{column, faults_at}
-use Rattle.hq_meaning.specs.Rows.{Row, pairs, kept, listed, faults_in, firsts, key_cmp, order_cmp, ordered, limited}
+use Rattle.hq_meaning.specs.Rows.{Row, firsts, key_cmp, order_cmp, ordered, limited}
 use Rattle.hq_meaning.specs.Aggregates.{added, over, together, aggregate_of, exact, arguments_fault, leaves_64, argument_faults}
 use Rattle.hq_meaning.specs.Groups.{members, key_of, keys_found, group_keys, group_row, grouped, some_leaves_64}
-use Rattle.hq_meaning.specs.Mean.{Database, Answer, product, source_rows, group_rows, having_rows, distinct_rows, finished, group_faults, faults, answer_of, mean}
+use Rattle.hq_meaning.specs.Mean.{Database, product, source_rows, group_rows, having_rows, distinct_rows, finished, faults, answer_of, mean}
 use Rattle.hq_meaning.proofs.Bags.{respects, any-SameBag, SameBag-refl, SameBag-equal, SameBag-trans, SameBag-map, SameBag-filter, SameBag-pairs, SameBag-firsts}
 use Rattle.hq_meaning.proofs.Together.{together-swap}
 
