@@ -1,0 +1,8 @@
+//! Laws between what queries mean and what plans mean. Each is the contract of a function that does nothing.
+#![tactic(auto)]
+
+mod groups;
+mod joins;
+
+pub use groups::splitting_keeps_groups;
+pub use joins::{copying_keeps_joins, regrouping_keeps_joins};
