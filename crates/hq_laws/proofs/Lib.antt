@@ -1,7 +1,11 @@
+pub mod Gathering
 pub mod Halves
-pub mod Partners
 pub mod Lists
 pub mod Merge
 pub mod OverNodes
 pub mod Owners
+pub mod Partners
+pub mod Products
 pub mod Regroup
+pub mod Runs
+pub mod Stages

@@ -1,1 +1,4 @@
+pub mod Gathered
+pub mod Spread
+pub mod Stages
 pub mod Words

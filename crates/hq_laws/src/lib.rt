@@ -3,6 +3,8 @@
 
 mod groups;
 mod joins;
+mod plans;
 
 pub use groups::splitting_keeps_groups;
 pub use joins::{copying_keeps_joins, regrouping_keeps_joins};
+pub use plans::gathering_keeps_meaning;
