@@ -1,3 +1,4 @@
+pub mod Chains
 pub mod Gathering
 pub mod Halves
 pub mod Lists
@@ -9,3 +10,4 @@ pub mod Products
 pub mod Regroup
 pub mod Runs
 pub mod Stages
+pub mod Standing

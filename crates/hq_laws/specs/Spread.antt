@@ -85,7 +85,7 @@ spread_plan kinds sent q t js = closed sent q (with_sources kinds (first_source 
 -- where every condition is true, the keys of the left row and of the right row match. The left row has w columns, the
 -- right one v, and other columns may follow
 abbrev pub AreImplied : ℕ → ℕ → List Expr → List ℕ → List ℕ → Type 0
-AreImplied w v conds lk rk = (l r rest : Row) → length l ≡ w → length r ≡ v → list_all (λ e. is_true_at e (l ++ r ++ rest)) conds ≡ true → matches lk rk l r ≡ true
+AreImplied w v conds lk rk = (l r rest : Row) → length l ≡ w → length r ≡ v → list_all (λ e. is_true_at e (l ++ (r ++ rest))) conds ≡ true → matches lk rk l r ≡ true
 
 -- so it is with the keys of each join; the rows before it have w columns
 abbrev pub KeysAreImplied : (ℕ → List Kind) → List Expr → ℕ → List Joining → Type 0
