@@ -1,5 +1,5 @@
 -- The plan that gathers each source means what its query means.
-use Rattle.std.proofs.Common.{◌≡◌, ℕ, zero, suc, ◌<◌, Bool, true, false, cond, ◌||◌, ◌&&◌, List, [], ◌∷◌, ◌++◌, length, map, flat_map, refl, sym, ◌∙◌, ap, subst, arith, append_assoc}
+use Rattle.std.proofs.Common.{◌≡◌, ℕ, suc, ◌<◌, Bool, true, false, cond, ◌||◌, ◌&&◌, List, [], ◌∷◌, ◌++◌, length, map, flat_map, refl, sym, ◌∙◌, ap, arith, append_assoc}
 use Rattle.std.specs.List.{list_any}
 use Rattle.std.proofs.lemmas.List.{append-nil}
 use Rattle.hq_value.specs.declared.table.Kind.{Kind}
@@ -7,7 +7,6 @@ use Rattle.hq_value.specs.Order.{SameBag}
 use Rattle.hq_algebra.specs.declared.op.Op.{Op}
 use Rattle.hq_algebra.specs.declared.op.Op.TheVariants as op
 use Rattle.hq_algebra.specs.declared.op.Op.TheBlock.{hidden-the_row-Op-0}
-use Rattle.hq_algebra.specs.declared.plan.Slice.{Slice}
 use Rattle.hq_algebra.specs.declared.plan.Motion.TheVariants as motion
 use Rattle.hq_algebra.specs.declared.query.Query.{Query}
 use denote.Hole.Carrier.{hidden}
@@ -15,18 +14,18 @@ use Rattle.hq_algebra.specs.Plans.{is_gather, operators, received}
 use Rattle.hq_meaning.specs.Rows.{Row, pairs, kept, faults_in}
 use Rattle.hq_meaning.specs.Aggregates.{arguments_fault}
 use Rattle.hq_meaning.specs.Groups.{some_leaves_64}
-use Rattle.hq_meaning.specs.Mean.{answer_of, product, source_rows, group_rows, having_rows, finished, group_faults, faults, mean}
+use Rattle.hq_meaning.specs.Mean.{answer_of, product, group_rows, having_rows, finished, faults, mean}
 use Rattle.hq_meaning.specs.Nodes.{nodes_of, lowest}
 use Rattle.hq_meaning.specs.Slices.{Here, rows_of, op_faults, receives}
-use Rattle.hq_meaning.specs.Plans.{Parts, Sent, sent_by, own_rows, all_rows, here_at, runs_on, run_slice, run_slices, answer_after, plan_mean}
+use Rattle.hq_meaning.specs.Plans.{Parts, Sent, sent_by, all_rows, here_at, runs_on, run_slice, run_slices, answer_after, plan_mean}
 use Rattle.hq_meaning.proofs.Bags.{SameBag-equal}
 use Rattle.hq_meaning.proofs.MeanLaw.{mean-SameBag}
 use Rattle.hq_laws.specs.Words.{IsOwner}
-use Rattle.hq_laws.specs.Stages.{filters, partial_op, final_op, tail_op, sending}
+use Rattle.hq_laws.specs.Stages.{filters, partial_op, final_op, sending}
 use Rattle.hq_laws.specs.Gathered.{product_from, product_op, rest_op, scan_slice, gathered_plan}
 use Rattle.hq_laws.proofs.Products.{pairs-one, pairs-assoc, join-pairs}
 use Rattle.hq_laws.proofs.Regroup.{flat_map-append}
-use Rattle.hq_laws.proofs.Stages.{or_false, or_assoc, never, filters-rows, filters-faults, filters-receives, tail-receives, final-receives, partial-receives, tail-rows, tail-faults, faults-without_having, partials-fault, groups-bag, final-fault, both-steps}
+use Rattle.hq_laws.proofs.Stages.{or_false, never, filters-rows, filters-faults, filters-receives, tail-receives, final-receives, partial-receives, tail-rows, tail-faults, faults-without_having, partials-fault, groups-bag, final-fault, both-steps}
 use Rattle.hq_laws.proofs.Runs.{eq_self, run-append, answer-push, gathered, gathered-SameBag}
 
 -- The sources.

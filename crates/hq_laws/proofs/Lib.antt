@@ -9,5 +9,6 @@ pub mod Partners
 pub mod Products
 pub mod Regroup
 pub mod Runs
+pub mod Spreading
 pub mod Stages
 pub mod Standing

@@ -1,7 +1,7 @@
 -- Words of the proofs, over lists.
 --     occurs m ns         how often the number m stands in a list
 --     AllOf P xs          P holds of each element
-use Rattle.std.proofs.Common.{◌≡◌, ◌<◌, ℕ, zero, suc, ◌+◌, ◌==◌, List, [], ◌∷◌, length, cond, arith}
+use Rattle.std.proofs.Common.{ℕ, suc, ◌+◌, ◌==◌, List, [], ◌∷◌, cond, arith}
 use Rattle.std.specs.List.{All}
 
 abbrev pub occurs : ℕ → List ℕ → ℕ

@@ -1,5 +1,5 @@
 -- Final over the merged Partials of any parts gives the groups of all their rows.
-use Rattle.std.proofs.Common.{flat_map, ◌≡◌, ℕ, zero, suc, ◌+◌, ◌^◌, ◌<◌, Bool, true, false, cond, not, ◌||◌, List, [], ◌∷◌, ◌++◌, length, map, filter, take, ℤ, pos, ◌+ℤ◌, refl, sym, ◌∙◌, ap, subst, arith, add-one, append_assoc, length-append, Option, Some, None}
+use Rattle.std.proofs.Common.{flat_map, ◌≡◌, ℕ, zero, suc, ◌+◌, ◌^◌, Bool, true, false, cond, not, ◌||◌, List, [], ◌∷◌, ◌++◌, length, map, filter, take, ℤ, pos, ◌+ℤ◌, refl, sym, ◌∙◌, ap, subst, arith, add-one, append_assoc, length-append, Option, Some, None}
 use Rattle.std.specs.List.{list_any}
 use Rattle.std.proofs.Math.Seq.{take-append_seam}
 use Rattle.std.proofs.lemmas.Int.{ints}
@@ -7,8 +7,7 @@ use Rattle.std.proofs.lemmas.List.{append-nil, length-map, map-append}
 use Rattle.std.proofs.lemmas.List.Elements.{filter-append}
 use Rattle.hq_value.specs.declared.value.Value.{Value}
 use Rattle.hq_value.specs.declared.value.Value.TheVariants as value
-use Rattle.hq_value.specs.Sorting.{times}
-use Rattle.hq_value.specs.Order.{row_cmp, SameBag}
+use Rattle.hq_value.specs.Order.{SameBag}
 use Rattle.hq_algebra.specs.declared.aggregate.Aggregate.{Aggregate}
 use Rattle.hq_algebra.specs.declared.aggregate.Aggregate.TheVariants as agg
 use Rattle.hq_algebra.specs.Eval.{column}
@@ -17,9 +16,9 @@ use Rattle.hq_laws.specs.Words.{merged}
 use Rattle.hq_meaning.specs.Aggregates.{number, from_number, plus, added, together, over, or_zero, exact, aggregate_of, leaves_64}
 use Rattle.hq_meaning.specs.Groups.{key_of, keys_found, group_keys, members, group_row, grouped, some_leaves_64}
 use Rattle.hq_meaning.specs.Halves.{halves, whole}
-use Rattle.hq_meaning.specs.Operators.{columns_of, width, read, partial_row, partial, final_value, final_values, final_row, final, value_leaves, final_faults}
+use Rattle.hq_meaning.specs.Operators.{columns_of, width, read, partial_row, partial, final_values, final_row, final, value_leaves, final_faults}
 use Rattle.hq_laws.proofs.Lists.{AllOf}
-use Rattle.hq_meaning.proofs.Bags.{same_equal, same_self, times-firsts, any-SameBag, SameBag-refl, SameBag-trans, SameBag-equal, SameBag-map}
+use Rattle.hq_meaning.proofs.Bags.{same_equal, times-firsts, any-SameBag, SameBag-trans, SameBag-equal, SameBag-map}
 use Rattle.hq_meaning.proofs.Together.{null-over, over-append}
 use Rattle.hq_laws.proofs.Regroup.{flat_map-append}
 use Rattle.hq_laws.proofs.Halves.{parts}

@@ -1,7 +1,6 @@
 -- Each owner stands once among the nodes.
-use Rattle.std.proofs.Common.{flat_map, ◌≡◌, ℕ, zero, suc, ◌+◌, ◌<◌, ◌≤◌, ◌==◌, nat_lt, ◌%◌, Bool, true, false, cond, ◌||◌, List, [], ◌∷◌, ◌++◌, length, map, filter, slice_index, slice_index_or, refl, sym, ◌∙◌, ap, subst, arith}
+use Rattle.std.proofs.Common.{flat_map, ◌≡◌, ℕ, zero, suc, ◌+◌, ◌<◌, ◌≤◌, ◌==◌, Bool, true, false, cond, ◌||◌, List, [], ◌∷◌, ◌++◌, length, filter, slice_index, refl, sym, ◌∙◌, ap, subst, arith}
 use Rattle.std.specs.List.{list_any, range_with_len}
-use Rattle.hq_value.specs.declared.value.Value.{Value}
 use Rattle.hq_value.specs.Bucket.{bucket_of}
 use Rattle.hq_value.specs.Order.{SameBag}
 use Rattle.hq_algebra.specs.declared.aggregate.Aggregate.{Aggregate}

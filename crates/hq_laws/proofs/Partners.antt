@@ -6,8 +6,7 @@ use Rattle.std.specs.Ordering.{is_eq}
 use Rattle.std.specs.declared.cmp.Ordering.{Ordering}
 use Rattle.std.specs.declared.cmp.Ordering.TheVariants.{Less, Equal, Greater}
 use Rattle.hq_value.specs.declared.value.Value.{Value}
-use Rattle.hq_value.specs.declared.value.Value.TheVariants as value
-use Rattle.hq_value.specs.Bucket.{key_at, key_bytes, bucket_of, hash_of}
+use Rattle.hq_value.specs.Bucket.{key_at, key_bytes, hash_of}
 use Rattle.hq_value.specs.Sorting.{times}
 use Rattle.hq_value.specs.Order.{value_cmp, row_cmp, SameBag}
 use Rattle.hq_value.proofs.Sorting.{times-append}

@@ -1,5 +1,5 @@
 -- What is taken apart by node and put together again is the same bag.
-use Rattle.std.proofs.Common.{flat_map, ◌≡◌, ℕ, suc, ◌+◌, Bool, true, false, cond, ◌==◌, List, [], ◌∷◌, ◌++◌, map, filter, refl, sym, ◌∙◌, ap, arith, append_assoc}
+use Rattle.std.proofs.Common.{flat_map, ◌≡◌, ℕ, ◌+◌, Bool, true, false, cond, ◌==◌, List, [], ◌∷◌, ◌++◌, filter, refl, sym, ◌∙◌, ap, arith, append_assoc}
 use Rattle.hq_value.specs.Sorting.{times}
 use Rattle.hq_value.specs.Order.{row_cmp, SameBag}
 use Rattle.hq_value.proofs.Sorting.{times-append}

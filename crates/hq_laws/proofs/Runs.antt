@@ -1,5 +1,5 @@
 -- Slices one after the other.
-use Rattle.std.proofs.Common.{◌≡◌, ℕ, zero, suc, ◌<◌, ◌==◌, Bool, true, false, cond, ◌||◌, List, [], ◌∷◌, ◌++◌, length, flat_map, filter, refl, sym, ◌∙◌, ap, append_assoc, slice_index, slice_index_or, arith}
+use Rattle.std.proofs.Common.{◌≡◌, ℕ, zero, suc, ◌==◌, true, false, cond, ◌||◌, List, [], ◌∷◌, ◌++◌, length, flat_map, refl, sym, ◌∙◌, ap, slice_index, arith}
 use Rattle.std.specs.List.{list_any, range_with_len}
 use Rattle.hq_value.specs.Order.{SameBag}
 use Rattle.hq_algebra.specs.declared.op.Op.{Op}
@@ -8,10 +8,10 @@ use Rattle.hq_algebra.specs.Plans.{is_gather}
 use Rattle.hq_meaning.specs.Rows.{Row}
 use Rattle.hq_meaning.specs.Mean.{answer_of}
 use Rattle.hq_meaning.specs.Nodes.{nodes_of, lowest}
-use Rattle.hq_meaning.specs.Slices.{rows_of, op_faults, receives}
-use Rattle.hq_meaning.specs.Plans.{Parts, Sent, sent_by, own_rows, all_rows, receives_gather, runs_on, run_slice, run_slices, last_rows, answer_after}
+use Rattle.hq_meaning.specs.Slices.{receives}
+use Rattle.hq_meaning.specs.Plans.{Parts, Sent, sent_by, own_rows, all_rows, runs_on, run_slice, run_slices, last_rows, answer_after}
 use Rattle.hq_laws.specs.Words.{IsOwner}
-use Rattle.hq_laws.proofs.Lists.{occurs, AllOf}
+use Rattle.hq_laws.proofs.Lists.{AllOf}
 use Rattle.hq_laws.proofs.Stages.{or_false, or_assoc}
 use Rattle.hq_laws.proofs.Regroup.{regroup}
 use Rattle.hq_laws.proofs.Owners.{all_once}

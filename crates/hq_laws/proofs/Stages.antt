@@ -1,7 +1,6 @@
 -- What the stages behind the sources give, and where they fault.
-use Rattle.std.proofs.Common.{◌≡◌, ℕ, Bool, true, false, not, cond, ◌||◌, ◌&&◌, List, [], ◌∷◌, ◌++◌, length, map, filter, flat_map, refl, sym, ◌∙◌, ap, subst, IsTrue}
+use Rattle.std.proofs.Common.{◌≡◌, ℕ, Bool, true, false, not, cond, ◌||◌, ◌&&◌, List, [], ◌∷◌, length, filter, flat_map, refl, sym, ◌∙◌, ap, subst, IsTrue}
 use Rattle.std.specs.List.{list_any, list_all}
-use Rattle.hq_value.specs.declared.value.Value.{Value}
 use Rattle.hq_value.specs.Order.{SameBag}
 use Rattle.hq_algebra.specs.declared.expr.Expr.{Expr}
 use Rattle.hq_algebra.specs.declared.op.Op.{Op}
@@ -13,15 +12,15 @@ use Rattle.hq_algebra.specs.Shape.{has_arith}
 use Rattle.hq_algebra.specs.Rules.{cannot_fault}
 use Rattle.hq_algebra.specs.Eval.{is_true_at, faults_at}
 use Rattle.hq_algebra.proofs.Faultless.{faultless}
-use Rattle.hq_meaning.specs.Rows.{Row, kept, listed, faults_in, firsts, ordered, limited}
+use Rattle.hq_meaning.specs.Rows.{Row, kept, listed, faults_in, firsts, limited}
 use Rattle.hq_meaning.specs.Aggregates.{arguments_fault}
 use Rattle.hq_meaning.specs.Groups.{grouped, some_leaves_64}
-use Rattle.hq_meaning.specs.Operators.{filtered, partial, final, final_faults}
+use Rattle.hq_meaning.specs.Operators.{filtered, final, final_faults}
 use Rattle.hq_meaning.specs.Mean.{group_rows, having_rows, finished, group_faults, faults}
 use Rattle.hq_meaning.specs.Slices.{Here, rows_of, op_faults, receives}
-use Rattle.hq_meaning.proofs.Bags.{any-SameBag, SameBag-refl, SameBag-trans, SameBag-equal, SameBag-map, SameBag-filter, SameBag-firsts}
+use Rattle.hq_meaning.proofs.Bags.{any-SameBag, SameBag-trans, SameBag-equal, SameBag-map, SameBag-filter, SameBag-firsts}
 use Rattle.hq_meaning.proofs.MeanLaw.{ordered-SameBag, grouped-SameBag, some_leaves_64-SameBag}
-use Rattle.hq_laws.specs.Stages.{filters, partial_op, final_op, distinct_op, tail_op}
+use Rattle.hq_laws.specs.Stages.{filters, partial_op, final_op, tail_op}
 use Rattle.hq_laws.proofs.OverNodes.{arguments-over, final-over, final-faults-over}
 
 pub or_false : (b : Bool) → (b || false) ≡ b

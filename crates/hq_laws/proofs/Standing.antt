@@ -1,5 +1,5 @@
 -- What stands on the nodes after each source.
-use Rattle.std.proofs.Common.{◌≡◌, ℕ, suc, ◌+◌, ◌==◌, Bool, true, false, cond, ◌||◌, List, [], ◌∷◌, ◌++◌, length, map, filter, flat_map, slice_index, refl, sym, ◌∙◌, ap, subst, append_assoc, length-append, arith}
+use Rattle.std.proofs.Common.{◌≡◌, ℕ, suc, ◌+◌, ◌==◌, Bool, true, false, cond, ◌||◌, List, [], ◌∷◌, ◌++◌, length, filter, flat_map, slice_index, refl, sym, ◌∙◌, ap, subst, append_assoc, length-append}
 use Rattle.std.specs.List.{list_any, range_with_len, All}
 use Rattle.std.proofs.lemmas.List.{append-nil}
 use Rattle.std.proofs.lemmas.List.Elements.{filter-append}
@@ -17,8 +17,8 @@ use Rattle.hq_algebra.specs.Plans.{is_gather}
 use Rattle.hq_meaning.specs.Rows.{Row}
 use Rattle.hq_meaning.specs.Operators.{matches, beside, joined}
 use Rattle.hq_meaning.specs.Nodes.{nodes_of, home, moved}
-use Rattle.hq_meaning.specs.Slices.{Here, rows_of, op_faults}
-use Rattle.hq_meaning.specs.Plans.{Parts, Sent, sent_by, own_rows, all_rows, here_at, runs_on, run_slice, run_slices}
+use Rattle.hq_meaning.specs.Slices.{rows_of, op_faults}
+use Rattle.hq_meaning.specs.Plans.{Parts, Sent, own_rows, all_rows, here_at, runs_on, run_slice, run_slices}
 use Rattle.hq_meaning.proofs.Bags.{SameBag-refl, SameBag-sym, SameBag-trans, SameBag-equal, SameBag-map, SameBag-filter, SameBag-flat_map, SameBag-flat_map_by}
 use Rattle.hq_laws.specs.Words.{IsOwner}
 use Rattle.hq_laws.specs.Stages.{sending}

@@ -6,7 +6,6 @@
 --     StandByKeys parts js              a table that stays where it is stands there by its keys
 use Rattle.std.specs.Prelude.{◌≡◌, ℕ, suc, ◌+◌, true, List, [], ◌∷◌, ◌++◌, length}
 use Rattle.std.specs.List.{list_all, All}
-use Rattle.hq_value.specs.declared.value.Value.{Value}
 use Rattle.hq_value.specs.declared.table.Kind.{Kind}
 use Rattle.hq_value.specs.Bucket.{bucket_of}
 use Rattle.hq_algebra.specs.declared.expr.Expr.{Expr}

@@ -7,4 +7,4 @@ mod plans;
 
 pub use groups::splitting_keeps_groups;
 pub use joins::{copying_keeps_joins, regrouping_keeps_joins};
-pub use plans::gathering_keeps_meaning;
+pub use plans::{gathering_keeps_meaning, joining_on_nodes_keeps_meaning};

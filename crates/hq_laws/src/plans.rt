@@ -1,13 +1,21 @@
 //! The laws of whole plans.
-ghost use Rattle.std.specs.Prelude.{◌≡◌, ℕ, List};
+ghost use Rattle.std.specs.Prelude.{◌≡◌, ℕ, List, ◌∷◌, map, length};
 ghost use Rattle.hq_value.specs.declared.table.Kind.{Kind};
 ghost use Rattle.hq_algebra.specs.declared.query.Query.{Query};
 ghost use Rattle.hq_meaning.specs.Mean.{mean};
 ghost use Rattle.hq_meaning.specs.Plans.{Parts, plan_mean, all_rows};
 ghost use Rattle.hq_laws.specs.Words.{IsOwner};
 ghost use Rattle.hq_laws.specs.Gathered.{gathered_plan};
+ghost use Rattle.hq_laws.specs.Spread.{Joining, spread_plan, FitKinds, KeysAreImplied, StandByKeys};
 
 /// The plan that gathers each source by itself and does the rest in the last slice means what its query means.
 pub fn gathering_keeps_meaning()
     ensures { (kinds : ℕ → List Kind) (q : Query) (parts : Parts) (owner : List ℕ) → IsOwner owner → plan_mean (gathered_plan kinds q) parts owner ≡ mean q (all_rows parts owner) }
+{}
+
+/// The plan that joins its sources on all nodes, groups there in a first step and finishes on one node means what its
+/// query means, where the rows have their table's number of columns, the conditions imply that the keys of each join
+/// are equal, and a table that stays where it is stands there by its keys.
+pub fn joining_on_nodes_keeps_meaning()
+    ensures { (kinds : ℕ → List Kind) (sent : List Kind) (q : Query) (t : ℕ) (js : List Joining) (parts : Parts) (owner : List ℕ) → q.sources ≡ t ∷ map (λ (j : Joining). j.table) js → IsOwner owner → FitKinds kinds parts → KeysAreImplied kinds q.conds (length (kinds t)) js → StandByKeys parts js → plan_mean (spread_plan kinds sent q t js) parts owner ≡ mean q (all_rows parts owner) }
 {}
