@@ -82,7 +82,7 @@ module _ (lk rk : List ℕ) (pl pr : Row → ℕ) (together : (l r : Row) → ma
       (regroup (beside lk rk right) pl ns left all)
 
 -- rows that match have one home
-meets-equal : (a b : Value) → meets a b ≡ true → a ≡ b
+pub meets-equal : (a b : Value) → meets a b ≡ true → a ≡ b
 meets-equal a b h = value_exact a b (by (is_null a) (value_cmp a b) h)
   where
     by : (n : Bool) (o : Ordering) → cond n false (is_eq o) ≡ true → o ≡ Equal
@@ -91,7 +91,7 @@ meets-equal a b h = value_exact a b (by (is_null a) (value_cmp a b) h)
     by false Equal e = refl
     by false Greater e = cc
 
-both_true : (a b : Bool) → (a && b) ≡ true → (a ≡ true) × (b ≡ true)
+pub both_true : (a b : Bool) → (a && b) ≡ true → (a ≡ true) × (b ≡ true)
 both_true true b h = (refl, h)
 both_true false b h = cc
 

@@ -20,7 +20,8 @@ use Rattle.hq_meaning.specs.Mean.{group_rows, having_rows, finished, group_fault
 use Rattle.hq_meaning.specs.Slices.{Here, rows_of, op_faults, receives}
 use Rattle.hq_meaning.proofs.Bags.{any-SameBag, SameBag-trans, SameBag-equal, SameBag-map, SameBag-filter, SameBag-firsts}
 use Rattle.hq_meaning.proofs.MeanLaw.{ordered-SameBag, grouped-SameBag, some_leaves_64-SameBag}
-use Rattle.hq_laws.specs.Stages.{filters, partial_op, final_op, tail_op}
+use Rattle.hq_laws.specs.Stages.{filters, partial_op, final_aggregates, final_op, tail_op}
+use Rattle.hq_laws.proofs.Finals.{final-same, final_faults-same}
 use Rattle.hq_laws.proofs.OverNodes.{arguments-over, final-over, final-faults-over}
 
 pub or_false : (b : Bool) → (b || false) ≡ b
@@ -97,7 +98,7 @@ module _ (q : Query) where
   unfolding hidden-the_row-Op-0 hidden
   final-receives x = by q.grouped
     where
-      by : (b : Bool) → receives (cond b (op.Final (length q.groups) q.aggregates x) x) ≡ receives x
+      by : (b : Bool) → receives (cond b (op.Final (length q.groups) (final_aggregates (length q.groups) q.aggregates) x) x) ≡ receives x
       by true = refl
       by false = refl
 
@@ -154,9 +155,11 @@ module _ (q : Query) (x : Op) (at : ℕ → Here) (ns : List ℕ) (rows : List R
     groups-bag = by q.grouped come
       where
         by : (b : Bool) → rows_of y here ≡ flat_map (λ n. rows_of (cond b (op.Partial q.groups q.aggregates x) x) (at n)) ns
-            → SameBag (rows_of (cond b (op.Final (length q.groups) q.aggregates y) y) here) (cond b (grouped q.groups q.aggregates rows) rows)
+            → SameBag (rows_of (cond b (op.Final (length q.groups) (final_aggregates (length q.groups) q.aggregates) y) y) here) (cond b (grouped q.groups q.aggregates rows) rows)
         by true e = SameBag-trans _ (grouped q.groups q.aggregates (flat_map (λ n. rows_of x (at n)) ns)) _
-            (subst (λ l. SameBag (final (length q.groups) q.aggregates l) (grouped q.groups q.aggregates (flat_map (λ n. rows_of x (at n)) ns))) (sym e) (final-over q.groups q.aggregates (λ n. rows_of x (at n)) ns))
+            (SameBag-trans _ (final (length q.groups) q.aggregates (rows_of y here)) _
+            (SameBag-equal _ _ (final-same (length q.groups) (length q.groups) q.aggregates (rows_of y here)))
+            (subst (λ l. SameBag (final (length q.groups) q.aggregates l) (grouped q.groups q.aggregates (flat_map (λ n. rows_of x (at n)) ns))) (sym e) (final-over q.groups q.aggregates (λ n. rows_of x (at n)) ns)))
             (grouped-SameBag q.groups q.aggregates (flat_map (λ n. rows_of x (at n)) ns) rows bag)
         by false e = SameBag-trans _ (flat_map (λ n. rows_of x (at n)) ns) _ (SameBag-equal _ _ e) bag
 
@@ -165,9 +168,9 @@ module _ (q : Query) (x : Op) (at : ℕ → Here) (ns : List ℕ) (rows : List R
     final-fault = by q.grouped come
       where
         by : (b : Bool) → rows_of y here ≡ flat_map (λ n. rows_of (cond b (op.Partial q.groups q.aggregates x) x) (at n)) ns
-            → op_faults (cond b (op.Final (length q.groups) q.aggregates y) y) here ≡ (op_faults y here || (b && some_leaves_64 q.groups q.aggregates rows))
+            → op_faults (cond b (op.Final (length q.groups) (final_aggregates (length q.groups) q.aggregates) y) y) here ≡ (op_faults y here || (b && some_leaves_64 q.groups q.aggregates rows))
         by true e = ap (λ c. op_faults y here || c)
-            (ap (final_faults (length q.groups) q.aggregates) e ∙ final-faults-over q.groups q.aggregates (λ n. rows_of x (at n)) ns ∙ some_leaves_64-SameBag q.groups q.aggregates (flat_map (λ n. rows_of x (at n)) ns) rows bag)
+            (final_faults-same (length q.groups) (length q.groups) q.aggregates (rows_of y here) ∙ ap (final_faults (length q.groups) q.aggregates) e ∙ final-faults-over q.groups q.aggregates (λ n. rows_of x (at n)) ns ∙ some_leaves_64-SameBag q.groups q.aggregates (flat_map (λ n. rows_of x (at n)) ns) rows bag)
         by false e = sym (or_false (op_faults y here))
 
 -- both steps fault where the groups do

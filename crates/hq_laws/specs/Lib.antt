@@ -1,3 +1,4 @@
+pub mod Equated
 pub mod Gathered
 pub mod Spread
 pub mod Stages
