@@ -15,3 +15,4 @@ pub mod Runs
 pub mod Spreading
 pub mod Stages
 pub mod Standing
+pub mod Typing
