@@ -2,6 +2,7 @@ pub mod Chains
 pub mod Equating
 pub mod Examples
 pub mod Finals
+pub mod Fitness
 pub mod Gathering
 pub mod Halves
 pub mod Lists
