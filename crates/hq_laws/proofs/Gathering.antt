@@ -99,7 +99,7 @@ module _ (q : Query) (here : Here) (x : Op) (clean : op_faults x here ≡ false)
       ∙ ap (λ b. b || (q.grouped && some_leaves_64 q.groups q.aggregates rows)) partial-fault ∙ both-steps q rows)
       ∙ faults-without_having q rows
 
-rest-receives : (q : Query) (x : Op) → receives (rest_op q x) ≡ receives x
+pub rest-receives : (q : Query) (x : Op) → receives (rest_op q x) ≡ receives x
 rest-receives q x = tail-receives q (final_op q (partial_op q (filters q.conds x))) ∙ final-receives q (partial_op q (filters q.conds x)) ∙ partial-receives q (filters q.conds x) ∙ filters-receives q.conds x
 
 -- The slices.

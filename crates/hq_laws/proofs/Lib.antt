@@ -3,6 +3,7 @@ pub mod Equating
 pub mod Examples
 pub mod Finals
 pub mod Fitness
+pub mod GatheredForm
 pub mod Gathering
 pub mod Halves
 pub mod Lists
@@ -13,6 +14,7 @@ pub mod Partners
 pub mod Products
 pub mod Regroup
 pub mod Runs
+pub mod Shapes
 pub mod Spreading
 pub mod Stages
 pub mod Standing

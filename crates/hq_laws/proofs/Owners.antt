@@ -21,10 +21,10 @@ use Rattle.std.proofs.lemmas.List.{append-nil}
 eq_self : (n : ℕ) → (n == n) ≡ true
 eq_self n = grind arith
 
-eq_means : (m n : ℕ) → (m == n) ≡ true → m ≡ n
+pub eq_means : (m n : ℕ) → (m == n) ≡ true → m ≡ n
 eq_means m n h = grind arith
 
-none-from : (m a n : ℕ) → m < a → occurs m (range_with_len a n) ≡ 0
+pub none-from : (m a n : ℕ) → m < a → occurs m (range_with_len a n) ≡ 0
 none-from m a zero h = refl
 none-from m a (suc n) h = by (m == a) refl (none-from m (a + 1) n (omega arith))
   where
@@ -36,7 +36,7 @@ above : (m a : ℕ) → a ≤ m → (m == a) ≡ false → a + 1 ≤ m
 above m a h e = grind arith
 
 -- a number stands once in a range around it
-once-from : (m a n : ℕ) → a ≤ m → m < a + n → occurs m (range_with_len a n) ≡ 1
+pub once-from : (m a n : ℕ) → a ≤ m → m < a + n → occurs m (range_with_len a n) ≡ 1
 once-from m a zero low high = absurd (omega arith)
 once-from m a (suc n) low high = by (m == a) refl (λ h. once-from m (a + 1) n h (omega arith))
   where
