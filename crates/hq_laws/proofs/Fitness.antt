@@ -1,11 +1,12 @@
 -- The operators of the stages of a plan, each by itself.
-use Rattle.std.proofs.Common.{◌≡◌, ℕ, zero, suc, ◌+◌, ◌≤◌, Bool, true, false, not, cond, ◌&&◌, ◌||◌, ◌==◌, List, [], ◌∷◌, ◌++◌, length, map, flat_map, refl, sym, ◌∙◌, ap, subst, arith, nat_le, IsTrue}
+use Rattle.std.proofs.Common.{◌≡◌, ℕ, zero, suc, ◌+◌, ◌≤◌, Bool, true, false, not, cond, ◌&&◌, ◌||◌, ◌==◌, List, [], ◌∷◌, ◌++◌, length, map, flat_map, Option, refl, sym, ◌∙◌, ap, subst, arith, nat_le, IsTrue}
 use Rattle.std.specs.List.{list_any, list_all}
 use Rattle.std.proofs.lemmas.List.Folds.{list_all-append}
 use Rattle.hq_algebra.specs.declared.expr.Expr.{Expr}
 use Rattle.hq_algebra.specs.declared.expr.Expr.TheVariants as expr
 use Rattle.hq_algebra.specs.declared.aggregate.Aggregate.{Aggregate}
 use Rattle.hq_algebra.specs.declared.aggregate.Aggregate.TheVariants as agg
+use Rattle.hq_algebra.specs.declared.op.SortKey.{SortKey}
 use Rattle.hq_algebra.specs.declared.op.Op.{Op}
 use Rattle.hq_algebra.specs.declared.op.Op.TheVariants as op
 use Rattle.hq_algebra.specs.declared.op.Op.TheBlock.{hidden-the_row-Op-0}
@@ -55,6 +56,7 @@ module _ (P : Op → Bool) where
       where
         items : Pass (op.Project q.items (filters q.having x))
         items = λ i. project (filters q.having x) i && filters-pass q.having having x h i
+
         by : (b : Bool) → Pass (cond b (op.Distinct (op.Project q.items (filters q.having x))) (op.Project q.items (filters q.having x)))
         by true = λ i. distinct (op.Project q.items (filters q.having x)) i && items i
         by false = items
@@ -62,6 +64,23 @@ module _ (P : Op → Bool) where
 pub every-filter : (P : Op → Bool) → ((c : Expr) (x : Op) → P (op.Filter c x) ≡ true) → (conds : List Expr) → PassFilters P conds
 every-filter P h [] = tt
 every-filter P h (c ∷ conds) = (h c, every-filter P h conds)
+
+-- A test that looks at no operator of the stages passes them all.
+pub record Ignores (P : Op → Bool) : Type 0 where
+  pub filter : (c : Expr) (x : Op) → P (op.Filter c x) ≡ true
+  pub partial : (keys : List ℕ) (aggs : List Aggregate) (x : Op) → P (op.Partial keys aggs x) ≡ true
+  pub final : (n : ℕ) (aggs : List Aggregate) (x : Op) → P (op.Final n aggs x) ≡ true
+  pub project : (items : List Expr) (x : Op) → P (op.Project items x) ≡ true
+  pub distinct : (x : Op) → P (op.Distinct x) ≡ true
+  pub sort : (order : List SortKey) (limit : Option ℕ) (x : Op) → P (op.Sort order limit x) ≡ true
+
+module _ (P : Op → Bool) (own : Ignores P) (q : Query) where
+  pub through-partial : (x : Op) → Pass P x → Pass P (partial_op q (filters q.conds x))
+  through-partial x h = partial-pass P q (own.partial q.groups q.aggregates) (filters q.conds x) (filters-pass P q.conds (every-filter P own.filter q.conds) x h)
+
+  pub through-tail : (x : Op) → Pass P x → Pass P (tail_op q (final_op q x))
+  through-tail x h = tail-pass P q (every-filter P own.filter q.having) (own.project q.items) own.distinct (own.sort q.order q.limit) (final_op q x)
+      (final-pass P q (own.final (length q.groups) (final_aggregates (length q.groups) q.aggregates)) x h)
 
 -- How many operators there are.
 pub filters-count : (conds : List Expr) (x : Op) → length (operators (filters conds x)) ≡ length conds + length (operators x)
@@ -92,6 +111,7 @@ module _ (q : Query) (x : Op) where
     where
       f : length (operators (filters q.having x)) ≡ length q.having + length (operators x)
       f = filters-count q.having x
+
       by : (b : Bool) → suc (length (operators (cond b (op.Distinct (op.Project q.items (filters q.having x))) (op.Project q.items (filters q.having x))))) ≤ length q.having + length (operators x) + 3
       by true = omega (arith, f)
       by false = omega (arith, f)
@@ -138,7 +158,7 @@ module _ (q : Query) where
   small-parts : Small
   small-parts =
       let a : (are_small ((q.conds ++ q.having) ++ q.items) ≡ true) × (are_small (arguments q.aggregates) ≡ true) =
-          both_true _ _ (sym (list_all-append (λ e. nat_le (parts e) 256) ((q.conds ++ q.having) ++ q.items) (arguments q.aggregates)) ∙ q.small) in
+      both_true _ _ (sym (list_all-append (λ e. nat_le (parts e) 256) ((q.conds ++ q.having) ++ q.items) (arguments q.aggregates)) ∙ q.small) in
       let b : (are_small (q.conds ++ q.having) ≡ true) × (are_small q.items ≡ true) = both_true _ _ (sym (list_all-append (λ e. nat_le (parts e) 256) (q.conds ++ q.having) q.items) ∙ a.0) in
       let c : (are_small q.conds ≡ true) × (are_small q.having ≡ true) = both_true _ _ (sym (list_all-append (λ e. nat_le (parts e) 256) q.conds q.having) ∙ b.0) in
       (c.0, c.1, b.1, a.1)

@@ -33,7 +33,7 @@ use Rattle.hq_laws.proofs.Regroup.{flat_map-append}
 use Rattle.hq_laws.proofs.Chains.{AllOf-append}
 use Rattle.hq_laws.proofs.Gathering.{rest-receives}
 use Rattle.hq_laws.proofs.Typing.{Seen, seen-from, all_same_themselves, filters-kinds, final-kinds, tail-kinds}
-use Rattle.hq_laws.proofs.Fitness.{Pass, PassFilters, every-filter, filters-pass, partial-pass, final-pass, tail-pass, filters-count, partial-count, final-count, tail-count, length-finals, conds-fine, partial-fine, final-fine, tail-fine}
+use Rattle.hq_laws.proofs.Fitness.{Pass, every-filter, Ignores, through-partial, through-tail, filters-pass, partial-pass, final-pass, tail-pass, filters-count, partial-count, final-count, tail-count, length-finals, conds-fine, partial-fine, final-fine, tail-fine}
 use Rattle.hq_laws.proofs.Shapes.{or_true, result-push, fit-append, gather-push, any-received, all_received, received-once, all-operators, none-any, alone}
 
 -- A test that the operators of the product pass: it holds of each Receive of a source, and of a join without keys.
@@ -50,28 +50,19 @@ module _ (kinds : ℕ → List Kind) (all : List ℕ) (P : Op → Bool) (own : (
   from-pass before h done [] split i e = h
   from-pass before h done (t ∷ ts) split i e =
       from-pass (op.Join [] [] before (op.Receive i (kinds t)))
-          (λ j. join before (op.Receive i (kinds t)) j && (list_all-append P (operators before) (op.Receive i (kinds t) ∷ [])
-              ∙ (λ k. h k && ((ap (λ n. P (op.Receive n (kinds t))) e ∙ own done t ts split) k && true))) j)
-          (done ++ t ∷ []) ts (split ∙ sym (append_assoc done (t ∷ []) ts)) (suc i) (longer done t i e)
+      (λ j. join before (op.Receive i (kinds t)) j && (list_all-append P (operators before) (op.Receive i (kinds t) ∷ [])
+      ∙ (λ k. h k && ((ap (λ n. P (op.Receive n (kinds t))) e ∙ own done t ts split) k && true))) j)
+      (done ++ t ∷ []) ts (split ∙ sym (append_assoc done (t ∷ []) ts)) (suc i) (longer done t i e)
 
   pub product-pass : (t : ℕ) (ts : List ℕ) → all ≡ t ∷ ts → Pass P (product_op kinds (t ∷ ts))
   product-pass t ts e = from-pass (op.Receive 0 (kinds t)) (λ i. own [] t ts e i && true) (t ∷ []) ts e 1 refl
 
--- the rest
-rest-pass : (P : Op → Bool) (q : Query) → PassFilters P q.conds → PassFilters P q.having
-    → ((x : Op) → P (op.Partial q.groups q.aggregates x) ≡ true) → ((x : Op) → P (op.Final (length q.groups) (final_aggregates (length q.groups) q.aggregates) x) ≡ true)
-    → ((x : Op) → P (op.Project q.items x) ≡ true) → ((x : Op) → P (op.Distinct x) ≡ true) → ((x : Op) → P (op.Sort q.order q.limit x) ≡ true)
-    → (x : Op) → Pass P x → Pass P (rest_op q x)
-rest-pass P q conds having partial final project distinct sort x h =
-    tail-pass P q having project distinct sort (final_op q (partial_op q (filters q.conds x)))
-    (final-pass P q final (partial_op q (filters q.conds x)) (partial-pass P q partial (filters q.conds x) (filters-pass P q.conds conds x h)))
-
 -- aggregates that stand over pairs
-pub pairs-partial : (q : Query) → list_all stands_over_pairs q.aggregates ≡ true → (x : Op) → form.stands_over_pairs (op.Partial q.groups q.aggregates x) ≡ true
+pairs-partial : (q : Query) → list_all stands_over_pairs q.aggregates ≡ true → (x : Op) → form.stands_over_pairs (op.Partial q.groups q.aggregates x) ≡ true
 unfolding hidden-the_row-Op-0 hidden
 pairs-partial q h x = h
 
-pub pairs-final : (q : Query) → list_all stands_over_pairs q.aggregates ≡ true → (x : Op) → form.stands_over_pairs (op.Final (length q.groups) (final_aggregates (length q.groups) q.aggregates) x) ≡ true
+pairs-final : (q : Query) → list_all stands_over_pairs q.aggregates ≡ true → (x : Op) → form.stands_over_pairs (op.Final (length q.groups) (final_aggregates (length q.groups) q.aggregates) x) ≡ true
 unfolding hidden-the_row-Op-0 hidden
 pairs-final q h x = no-counts (length q.groups) q.aggregates h
   where
@@ -81,12 +72,22 @@ pairs-final q h x = no-counts (length q.groups) q.aggregates h
     one at (agg.Sum y) e = refl
     one at (agg.Min y) e = refl
     one at (agg.Max y) e = refl
+
     no-counts : (at : ℕ) (aggs : List Aggregate) → list_all stands_over_pairs aggs ≡ true → list_all (λ a. not (is_count a)) (final_aggregates at aggs) ≡ true
     no-counts at [] e = refl
     no-counts at (a ∷ aggs) e =
         let b : (stands_over_pairs a ≡ true) × (list_all stands_over_pairs aggs ≡ true) = both_true (stands_over_pairs a) _ e in
         let c : (not (is_count a) ≡ true) × (not (sums_no_column a) ≡ true) = both_true (not (is_count a)) _ b.0 in
         λ i. one at a c.0 i && no-counts (at + width a) aggs b.1 i
+
+pub pairs-middle : (q : Query) → list_all stands_over_pairs q.aggregates ≡ true → (x : Op) → Pass form.stands_over_pairs x → Pass form.stands_over_pairs (partial_op q (filters q.conds x))
+pairs-middle q over x h = partial-pass form.stands_over_pairs q (pairs-partial q over) (filters q.conds x) (filters-pass form.stands_over_pairs q.conds (every-filter form.stands_over_pairs (λ c x. refl) q.conds) x h)
+
+pub pairs-tail : (q : Query) → list_all stands_over_pairs q.aggregates ≡ true → (x : Op) → Pass form.stands_over_pairs x → Pass form.stands_over_pairs (tail_op q (final_op q x))
+pairs-tail q over x h = tail-pass form.stands_over_pairs q (every-filter form.stands_over_pairs (λ c x. refl) q.having) (λ x. refl) (λ x. refl) (λ x. refl) (final_op q x) (final-pass form.stands_over_pairs q (pairs-final q over) x h)
+
+pub not-joins : Ignores (λ o. not (is_join o))
+not-joins = record { filter = λ c x. refl; partial = λ keys aggs x. refl; final = λ n aggs x. refl; project = λ items x. refl; distinct = λ x. refl; sort = λ order limit x. refl }
 
 -- a slice that was found gathers
 abbrev gather_of : Option Slice → Bool
@@ -186,7 +187,7 @@ module _ (kinds : ℕ → List Kind) where
     root-kinds =
         let inner : op_kinds (filters q.conds (product_op kinds all)) ≡ Some (product_kinds kinds q) = filters-kinds (product_kinds kinds q) q.conds seen.conds (product_op kinds all) product-kinds in
         tail-kinds (product_kinds kinds q) q out seen (final_op q (partial_op q (filters q.conds (product_op kinds all))))
-            (final-kinds (product_kinds kinds q) q seen.seen seen.found (filters q.conds (product_op kinds all)) (partial_op q (filters q.conds (product_op kinds all))) inner refl)
+        (final-kinds (product_kinds kinds q) q seen.seen seen.found (filters q.conds (product_op kinds all)) (partial_op q (filters q.conds (product_op kinds all))) inner refl)
 
     few-operators : nat_le (length (operators root)) 64 ≡ true
     few-operators = count _ _ _ _ _ _ _ (tail-count q (final_op q (partial_op q (filters q.conds (product_op kinds all))))) (final-count q (partial_op q (filters q.conds (product_op kinds all)))) (partial-count q (filters q.conds (product_op kinds all)))
@@ -214,49 +215,27 @@ module _ (kinds : ℕ → List Kind) where
 
     -- the last slice fits those before it
     received-sent : Pass (receives_what_is_sent scans) root
-    received-sent = rest-pass (receives_what_is_sent scans) q (every-filter (receives_what_is_sent scans) own-filter q.conds) (every-filter (receives_what_is_sent scans) own-filter q.having) own-partial own-final own-project own-distinct own-sort
-        (product_op kinds all) (product-pass kinds all (receives_what_is_sent scans) own own-join t ts refl)
+    received-sent = through-tail (receives_what_is_sent scans) ignores q (partial_op q (filters q.conds (product_op kinds all)))
+        (through-partial (receives_what_is_sent scans) ignores q (product_op kinds all) (product-pass kinds all (receives_what_is_sent scans) own (λ x y. refl) t ts refl))
       where
+        ignores : Ignores (receives_what_is_sent scans)
+        ignores = record { filter = λ c x. refl; partial = λ keys aggs x. refl; final = λ n aggs x. refl; project = λ items x. refl; distinct = λ x. refl; sort = λ order limit x. refl }
+
         own : (done : List ℕ) (u : ℕ) (rest : List ℕ) → all ≡ done ++ u ∷ rest → receives_what_is_sent scans (op.Receive (length done) (kinds u)) ≡ true
         own done u rest split =
             let b : (nat_le 1 (length (kinds u)) ≡ true) × (nat_le (length (kinds u)) 64 ≡ true) = both_true (nat_le 1 (length (kinds u))) _ (table-at done u rest (ap (list_all (λ t. is_table (kinds t))) (sym split) ∙ tables)) in
             ap (λ o. form.are_sent (kinds u) (o >>= (λ s. op_kinds s.root))) (ap (λ l. slice_get (map (scan_slice kinds) l) (length done)) split ∙ place done u rest)
             ∙ (λ i. all_same_themselves (kinds u) i && some-kinds (kinds u) b.0 i)
-        own-filter : (c : Expr) (x : Op) → receives_what_is_sent scans (op.Filter c x) ≡ true
-        own-filter c x = refl
-        own-join : (x y : Op) → receives_what_is_sent scans (op.Join [] [] x y) ≡ true
-        own-join x y = refl
-        own-partial : (x : Op) → receives_what_is_sent scans (op.Partial q.groups q.aggregates x) ≡ true
-        own-partial x = refl
-        own-final : (x : Op) → receives_what_is_sent scans (op.Final (length q.groups) (final_aggregates (length q.groups) q.aggregates) x) ≡ true
-        own-final x = refl
-        own-project : (x : Op) → receives_what_is_sent scans (op.Project q.items x) ≡ true
-        own-project x = refl
-        own-distinct : (x : Op) → receives_what_is_sent scans (op.Distinct x) ≡ true
-        own-distinct x = refl
-        own-sort : (x : Op) → receives_what_is_sent scans (op.Sort q.order q.limit x) ≡ true
-        own-sort x = refl
 
     only-gathers : Pass (only_gathers scans) root
-    only-gathers = rest-pass (only_gathers scans) q (every-filter (only_gathers scans) own-filter q.conds) (every-filter (only_gathers scans) own-filter q.having) own-partial own-final own-project own-distinct own-sort
-        (product_op kinds all) (product-pass kinds all (only_gathers scans) own own-join t ts refl)
+    only-gathers = through-tail (only_gathers scans) ignores q (partial_op q (filters q.conds (product_op kinds all)))
+        (through-partial (only_gathers scans) ignores q (product_op kinds all) (product-pass kinds all (only_gathers scans) own (λ x y. refl) t ts refl))
       where
+        ignores : Ignores (only_gathers scans)
+        ignores = record { filter = λ c x. refl; partial = λ keys aggs x. refl; final = λ n aggs x. refl; project = λ items x. refl; distinct = λ x. refl; sort = λ order limit x. refl }
+
         own : (done : List ℕ) (u : ℕ) (rest : List ℕ) → all ≡ done ++ u ∷ rest → only_gathers scans (op.Receive (length done) (kinds u)) ≡ true
         own done u rest split = ap (λ o. gather_of o && true) (ap (λ l. slice_get (map (scan_slice kinds) l) (length done)) split ∙ place done u rest)
-        own-filter : (c : Expr) (x : Op) → only_gathers scans (op.Filter c x) ≡ true
-        own-filter c x = refl
-        own-join : (x y : Op) → only_gathers scans (op.Join [] [] x y) ≡ true
-        own-join x y = refl
-        own-partial : (x : Op) → only_gathers scans (op.Partial q.groups q.aggregates x) ≡ true
-        own-partial x = refl
-        own-final : (x : Op) → only_gathers scans (op.Final (length q.groups) (final_aggregates (length q.groups) q.aggregates) x) ≡ true
-        own-final x = refl
-        own-project : (x : Op) → only_gathers scans (op.Project q.items x) ≡ true
-        own-project x = refl
-        own-distinct : (x : Op) → only_gathers scans (op.Distinct x) ≡ true
-        own-distinct x = refl
-        own-sort : (x : Op) → only_gathers scans (op.Sort q.order q.limit x) ≡ true
-        own-sort x = refl
 
     root-receives : receives root ≡ range_with_len 0 (suc (length ts))
     root-receives = rest-receives q (product_op kinds all) ∙ from-receives (op.Receive 0 (kinds t)) 1 ts
@@ -267,44 +246,18 @@ module _ (kinds : ℕ → List Kind) where
     once : (i : ℕ) → i < suc (length ts) → occurs i (all_received (scans ++ last ∷ [])) ≡ 1
     once i h =
         ap (occurs i) (flat_map-append (λ (s : Slice). receives s.root) scans (last ∷ [])
-            ∙ (λ j. scans-receive all j ++ append-nil (receives root) j) ∙ root-receives)
+        ∙ (λ j. scans-receive all j ++ append-nil (receives root) j) ∙ root-receives)
         ∙ once-from i 0 (suc (length ts)) (omega arith) (omega arith)
 
     single : ts ≡ [] → Pass (λ o. not (is_join o)) root
-    single e = rest-pass (λ o. not (is_join o)) q (every-filter (λ o. not (is_join o)) own-filter q.conds) (every-filter (λ o. not (is_join o)) own-filter q.having) own-partial own-final own-project own-distinct own-sort
-        (product_op kinds all) (ap (λ us. list_all (λ o. not (is_join o)) (operators (product_op kinds (t ∷ us)))) e)
-      where
-        own-filter : (c : Expr) (x : Op) → not (is_join (op.Filter c x)) ≡ true
-        own-filter c x = refl
-        own-partial : (x : Op) → not (is_join (op.Partial q.groups q.aggregates x)) ≡ true
-        own-partial x = refl
-        own-final : (x : Op) → not (is_join (op.Final (length q.groups) (final_aggregates (length q.groups) q.aggregates) x)) ≡ true
-        own-final x = refl
-        own-project : (x : Op) → not (is_join (op.Project q.items x)) ≡ true
-        own-project x = refl
-        own-distinct : (x : Op) → not (is_join (op.Distinct x)) ≡ true
-        own-distinct x = refl
-        own-sort : (x : Op) → not (is_join (op.Sort q.order q.limit x)) ≡ true
-        own-sort x = refl
+    single e = through-tail (λ o. not (is_join o)) not-joins q (partial_op q (filters q.conds (product_op kinds all)))
+        (through-partial (λ o. not (is_join o)) not-joins q (product_op kinds all) (ap (λ us. list_all (λ o. not (is_join o)) (operators (product_op kinds (t ∷ us)))) e))
 
     several : (u : ℕ) (us : List ℕ) → ts ≡ u ∷ us → Pass form.stands_over_pairs root
-    several u us e = rest-pass form.stands_over_pairs q (every-filter form.stands_over_pairs own-filter q.conds) (every-filter form.stands_over_pairs own-filter q.having) (pairs-partial q over) (pairs-final q over) own-project own-distinct own-sort
-        (product_op kinds all) (product-pass kinds all form.stands_over_pairs own own-join t ts refl)
+    several u us e = pairs-tail q over (partial_op q (filters q.conds (product_op kinds all))) (pairs-middle q over (product_op kinds all) (product-pass kinds all form.stands_over_pairs (λ done u rest split. refl) (λ x y. refl) t ts refl))
       where
         over : list_all stands_over_pairs q.aggregates ≡ true
         over = ap (λ ss. fit_sources ss q.aggregates) (sym (sources ∙ ap (λ l. t ∷ l) e)) ∙ q.counts_of_one
-        own : (done : List ℕ) (u : ℕ) (rest : List ℕ) → all ≡ done ++ u ∷ rest → form.stands_over_pairs (op.Receive (length done) (kinds u)) ≡ true
-        own done u rest split = refl
-        own-filter : (c : Expr) (x : Op) → form.stands_over_pairs (op.Filter c x) ≡ true
-        own-filter c x = refl
-        own-join : (x y : Op) → form.stands_over_pairs (op.Join [] [] x y) ≡ true
-        own-join x y = refl
-        own-project : (x : Op) → form.stands_over_pairs (op.Project q.items x) ≡ true
-        own-project x = refl
-        own-distinct : (x : Op) → form.stands_over_pairs (op.Distinct x) ≡ true
-        own-distinct x = refl
-        own-sort : (x : Op) → form.stands_over_pairs (op.Sort q.order q.limit x) ≡ true
-        own-sort x = refl
 
     -- with one source there is no join, with more of them no count
     without-counts : joins_without_counts (all_operators (scans ++ last ∷ [])) ≡ true
@@ -324,14 +277,14 @@ module _ (kinds : ℕ → List Kind) where
     well-formed =
         let size : length (scans ++ last ∷ []) ≡ suc (length ts) + 1 = length-append scans (last ∷ []) ∙ ap (λ n. n + 1) (length-map all (scan_slice kinds)) in
         let many : (nat_le 2 (length (scans ++ last ∷ [])) ≡ true) × (nat_le (length (scans ++ last ∷ [])) 64 ≡ true) =
-            both_true _ _ (two-to-64 (length ts) (subst (λ ss. length ss ≤ 8) sources q.few_sources) (length (scans ++ last ∷ [])) size) in
+        both_true _ _ (two-to-64 (length ts) (subst (λ ss. length ss ≤ 8) sources q.few_sources) (length (scans ++ last ∷ [])) size) in
         let fine : list_all slice_is_fine (scans ++ last ∷ []) ≡ true =
-            list_all-append slice_is_fine scans (last ∷ []) ∙ (λ i. scans-fine all tables i && ((few-operators i && (root-fine i && is_some (root-kinds i))) && true)) in
+        list_all-append slice_is_fine scans (last ∷ []) ∙ (λ i. scans-fine all tables i && ((few-operators i && (root-fine i && is_some (root-kinds i))) && true)) in
         let move : list_all motion_is_fine (scans ++ last ∷ []) ≡ true = list_all-append motion_is_fine scans (last ∷ []) ∙ (λ i. scans-move all i && true) in
         let order_fits : fit_in_order [] (scans ++ last ∷ []) ≡ true =
-            fit-append [] scans (last ∷ []) ∙ (λ i. scans-fit [] all i && ((received-sent i && alone scans (operators root) only-gathers i) && true)) in
+        fit-append [] scans (last ∷ []) ∙ (λ i. scans-fit [] all i && ((received-sent i && alone scans (operators root) only-gathers i) && true)) in
         λ i. many.0 i && (many.1 i && (result-push scans last (scans-out all) refl i && (fine i && (move i && (order_fits i
-            && ((gather-push [] scans last ∙ gathers-last) i && (received-once (scans ++ last ∷ []) (suc (length ts)) (size ∙ one_more (length ts)) once i && without-counts i)))))))
+        && ((gather-push [] scans last ∙ gathers-last) i && (received-once (scans ++ last ∷ []) (suc (length ts)) (size ∙ one_more (length ts)) once i && without-counts i)))))))
       where
         one_more : (n : ℕ) → suc n + 1 ≡ suc (suc n)
         one_more n = omega arith
@@ -341,15 +294,20 @@ gathered-well_formed kinds q fits room = by_kinds (query_kinds kinds q) refl fit
   where
     b : (list_all (λ t. is_table (kinds t)) q.sources ≡ true) × ((are_few q && (is_short q.groups && (is_short q.aggregates && is_short q.order))) ≡ true)
     b = both_true (list_all (λ t. is_table (kinds t)) q.sources) _ room
+
     c : (are_few q ≡ true) × ((is_short q.groups && (is_short q.aggregates && is_short q.order)) ≡ true)
     c = both_true (are_few q) _ b.1
+
     d : (is_short q.groups ≡ true) × ((is_short q.aggregates && is_short q.order) ≡ true)
     d = both_true (is_short q.groups) _ c.1
+
     e : (is_short q.aggregates ≡ true) × (is_short q.order ≡ true)
     e = both_true (is_short q.aggregates) _ d.1
+
     by_sources : (out : List Kind) → query_kinds kinds q ≡ Some out → (ss : List ℕ) → q.sources ≡ ss → 0 < length ss → are_well_formed (map (scan_slice kinds) ss ++ sending motion.Result (rest_op q (product_op kinds ss)) ∷ []) ≡ true
     by_sources out f [] s some = absurd (omega arith)
     by_sources out f (t ∷ ts) s some = well-formed kinds q out f c.0 d.0 e.0 e.1 t ts s (subst (λ ss. list_all (λ t. is_table (kinds t)) ss ≡ true) s b.0)
+
     by_kinds : (o : Option (List Kind)) → query_kinds kinds q ≡ o → is_some o ≡ true → are_well_formed (map (scan_slice kinds) q.sources ++ sending motion.Result (rest_op q (product_op kinds q.sources)) ∷ []) ≡ true
     by_kinds None f h = cc
     by_kinds (Some out) f h = by_sources out f q.sources refl q.some_sources

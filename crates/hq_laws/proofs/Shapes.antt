@@ -65,10 +65,11 @@ pub received-once : (slices : List Slice) (n : ℕ) → length slices ≡ suc n 
 received-once slices n e once =
     ap (λ m. list_all (λ i. count_by (λ j. j == i) (flat_map received (all_operators slices)) == 1) (range_with_len 0 m)) (ap (λ l. l - 1) e ∙ less n)
     ∙ all-range (λ i. count_by (λ j. j == i) (flat_map received (all_operators slices)) == 1) 0 n
-        (λ k low high. is_one _ (ap (count_by (λ j. j == k)) (flat_map-flat_map received (λ (s : Slice). operators s.root) slices) ∙ count-occurs k (all_received slices) ∙ once k (below k n high)))
+    (λ k low high. is_one _ (ap (count_by (λ j. j == k)) (flat_map-flat_map received (λ (s : Slice). operators s.root) slices) ∙ count-occurs k (all_received slices) ∙ once k (below k n high)))
   where
     less : (n : ℕ) → suc n - 1 ≡ n
     less n = omega arith
+
     below : (k n : ℕ) → k < 0 + n → k < n
     below k n h = omega arith
 

@@ -148,10 +148,11 @@ length-columns (agg.Max e) k = refl
 finals-typed : (kinds whole : List Kind) (pre : List Kind) (aggs : List Aggregate) (ks : List Kind) → AreTyped kinds aggs ks → whole ≡ pre ++ laid aggs ks → AreTyped whole (final_aggregates (length pre) aggs) ks
 finals-typed kinds whole pre [] ks t e = t
 finals-typed kinds whole pre (a ∷ aggs) [] t e = absurd t
-finals-typed kinds whole pre (a ∷ aggs) (k ∷ ks) t e =
-    (one-final kinds whole (length pre) a k t.0 (ap (λ w. slice_get w (length pre)) e ∙ first-column a k (laid aggs ks) pre),
-     subst (λ n. AreTyped whole (final_aggregates n aggs) ks) (length-append pre (partial_columns a k) ∙ ap (λ n. length pre + n) (length-columns a k))
-        (finals-typed kinds whole (pre ++ partial_columns a k) aggs ks t.1 (e ∙ sym (append_assoc pre (partial_columns a k) (laid aggs ks)))))
+finals-typed kinds whole pre (a ∷ aggs) (k ∷ ks) t e = (
+  one-final kinds whole (length pre) a k t.0 (ap (λ w. slice_get w (length pre)) e ∙ first-column a k (laid aggs ks) pre),
+  subst (λ n. AreTyped whole (final_aggregates n aggs) ks) (length-append pre (partial_columns a k) ∙ ap (λ n. length pre + n) (length-columns a k))
+      (finals-typed kinds whole (pre ++ partial_columns a k) aggs ks t.1 (e ∙ sym (append_assoc pre (partial_columns a k) (laid aggs ks)))),
+)
 
 le-append : (n m : ℕ) → nat_le n (n + m) ≡ true
 le-append n m = grind arith
@@ -196,6 +197,7 @@ seen-from kinds q out h = by (seen_kinds (product_kinds kinds q) q) refl h
         let same : found ≡ out = cc in
         let both : (are_conditions (product_kinds kinds q) q.conds ≡ true) × (are_conditions seen q.having ≡ true) = both_true (are_conditions (product_kinds kinds q) q.conds) (are_conditions seen q.having) g in
         record { seen = seen; found = e; items = f ∙ ap Some same; conds = both.0; having = both.1 }
+
     by : (o : Option (List Kind)) → seen_kinds (product_kinds kinds q) q ≡ o → (o >>= (λ seen. items_kinds seen q.items >>= (λ found. some_if (are_conditions (product_kinds kinds q) q.conds && are_conditions seen q.having) found))) ≡ Some out → Seen (product_kinds kinds q) q out
     by None e h = cc
     by (Some seen) e h = and_then seen e (items_kinds seen q.items) refl (are_conditions (product_kinds kinds q) q.conds && are_conditions seen q.having) refl h
@@ -242,8 +244,8 @@ module _ (kinds : List Kind) (q : Query) (seen : List Kind) (found : seen_kinds 
           let s : Grouped kinds q seen = grouped-from kinds q seen (ap (λ b. cond b (group_kinds kinds q) (Some kinds)) (sym g) ∙ found) in
           let n : length s.keys ≡ length q.groups = length-every (slice_get kinds) q.groups s.keys s.keys_are in
           let given : op_kinds (op.Partial q.groups q.aggregates x) ≡ Some (s.keys ++ laid q.aggregates s.values) =
-              (λ i. h i >>= partial_kinds q.groups q.aggregates)
-              ∙ (λ i. s.keys_are i >>= (λ ks. layout-from kinds q.aggregates s.values s.values_are i >>= (λ columns. Some (ks ++ columns)))) in
+          (λ i. h i >>= partial_kinds q.groups q.aggregates)
+          ∙ (λ i. s.keys_are i >>= (λ ks. layout-from kinds q.aggregates s.values s.values_are i >>= (λ columns. Some (ks ++ columns)))) in
           ap (λ o. o >>= final_kinds (length q.groups) (final_aggregates (length q.groups) q.aggregates)) (e ∙ given)
           ∙ ap (λ m. final_kinds m (final_aggregates m q.aggregates) (s.keys ++ laid q.aggregates s.values)) (sym n)
           ∙ final_kinds-groups kinds s.keys q.aggregates s.values s.values_are ∙ ap Some (sym s.both)
@@ -256,8 +258,10 @@ tail-kinds kinds q out s x h = ap (λ o. o >>= sort_kinds q.order) (by q.distinc
   where
     items : op_kinds (op.Project q.items (filters q.having x)) ≡ Some out
     items = ap (λ o. o >>= (λ kinds. items_kinds kinds q.items)) (filters-kinds s.seen q.having s.having x h) ∙ s.items
+
     by : (b : Bool) → op_kinds (cond b (op.Distinct (op.Project q.items (filters q.having x))) (op.Project q.items (filters q.having x))) ≡ Some out
     by true = items
     by false = items
+
     within : are_within q.order (length out) ≡ true
     within = ap (are_within q.order) (length-every (λ e. item_kind (expr_kind s.seen e)) q.items out s.items) ∙ q.order_columns

@@ -1,16 +1,24 @@
 //! The laws of whole plans.
-ghost use Rattle.std.specs.Prelude.{◌≡◌, ℕ, List, ◌∷◌, map, length};
+ghost use Rattle.std.specs.Prelude.{◌≡◌, ℕ, List, ◌∷◌, map, length, IsTrue, is_some};
 ghost use Rattle.hq_value.specs.declared.table.Kind.{Kind};
 ghost use Rattle.hq_algebra.specs.declared.query.Query.{Query};
+ghost use Rattle.hq_algebra.specs.Queries.{query_kinds};
+ghost use Rattle.hq_algebra.specs.Plans.{is_well_formed};
 ghost use Rattle.hq_meaning.specs.Mean.{mean};
 ghost use Rattle.hq_meaning.specs.Plans.{Parts, plan_mean, all_rows};
 ghost use Rattle.hq_laws.specs.Words.{IsOwner};
 ghost use Rattle.hq_laws.specs.Gathered.{gathered_plan};
+ghost use Rattle.hq_laws.specs.Room.{has_room};
 ghost use Rattle.hq_laws.specs.Spread.{Joining, spread_plan, FitKinds, KeysAreImplied, StandByKeys};
 
 /// The plan that gathers each source by itself and does the rest in the last slice means what its query means.
 pub fn gathering_keeps_meaning()
     ensures { (kinds : ℕ → List Kind) (q : Query) (parts : Parts) (owner : List ℕ) → IsOwner owner → plan_mean (gathered_plan kinds q) parts owner ≡ mean q (all_rows parts owner) }
+{}
+
+/// That plan is well formed, where the query has kinds over its tables, and tables and lists that a plan has room for.
+pub fn gathered_plans_are_well_formed()
+    ensures { (kinds : ℕ → List Kind) (q : Query) → IsTrue (is_some (query_kinds kinds q)) → IsTrue (has_room kinds q) → IsTrue (is_well_formed (gathered_plan kinds q)) }
 {}
 
 /// The plan that joins its sources on all nodes, groups there in a first step and finishes on one node means what its
