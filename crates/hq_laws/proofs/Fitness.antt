@@ -1,9 +1,8 @@
 -- The operators of the stages of a plan, each by itself.
-use Rattle.std.proofs.Common.{◌≡◌, ℕ, zero, suc, ◌+◌, ◌≤◌, Bool, true, false, not, cond, ◌&&◌, ◌||◌, ◌==◌, List, [], ◌∷◌, ◌++◌, length, map, flat_map, Option, refl, sym, ◌∙◌, ap, subst, arith, nat_le, IsTrue}
-use Rattle.std.specs.List.{list_any, list_all}
+use Rattle.std.proofs.Common.{◌≡◌, ℕ, suc, ◌+◌, ◌≤◌, Bool, true, false, not, cond, ◌&&◌, List, [], ◌∷◌, ◌++◌, length, Option, refl, sym, ◌∙◌, ap, arith, nat_le}
+use Rattle.std.specs.List.{list_all}
 use Rattle.std.proofs.lemmas.List.Folds.{list_all-append}
 use Rattle.hq_algebra.specs.declared.expr.Expr.{Expr}
-use Rattle.hq_algebra.specs.declared.expr.Expr.TheVariants as expr
 use Rattle.hq_algebra.specs.declared.aggregate.Aggregate.{Aggregate}
 use Rattle.hq_algebra.specs.declared.aggregate.Aggregate.TheVariants as agg
 use Rattle.hq_algebra.specs.declared.op.SortKey.{SortKey}
@@ -13,7 +12,7 @@ use Rattle.hq_algebra.specs.declared.op.Op.TheBlock.{hidden-the_row-Op-0}
 use Rattle.hq_algebra.specs.declared.query.Query.{Query}
 use denote.Hole.Carrier.{hidden}
 use Rattle.hq_algebra.specs.Shape.{parts, has_arith}
-use Rattle.hq_algebra.specs.Rules.{cannot_fault, are_small, argument, arguments, is_count, sums_no_column, stands_over_pairs}
+use Rattle.hq_algebra.specs.Rules.{cannot_fault, are_small, argument, arguments}
 use Rattle.hq_algebra.specs.Plans.{operators, is_short, op_is_fine}
 use Rattle.hq_meaning.specs.Operators.{width}
 use Rattle.hq_laws.specs.Stages.{filters, partial_op, final_aggregate, final_aggregates, final_op, distinct_op, tail_op}

@@ -1,11 +1,10 @@
 -- The plan that gathers each source is well formed.
-use Rattle.std.proofs.Common.{◌≡◌, ℕ, zero, suc, ◌+◌, ◌<◌, ◌≤◌, Bool, true, false, not, cond, ◌&&◌, ◌||◌, List, [], ◌∷◌, ◌++◌, length, map, flat_map, Option, Some, None, is_some, refl, sym, ◌∙◌, ap, subst, arith, append_assoc, length-append, nat_le, slice_get, IsTrue}
+use Rattle.std.proofs.Common.{◌≡◌, ℕ, suc, ◌+◌, ◌<◌, ◌≤◌, Bool, true, false, not, ◌&&◌, ◌||◌, List, [], ◌∷◌, ◌++◌, length, map, flat_map, Option, Some, None, is_some, refl, sym, ◌∙◌, ap, subst, arith, append_assoc, length-append, nat_le, slice_get, IsTrue}
 use Rattle.std.specs.Option.{option_map_or}
 use Rattle.std.specs.List.{list_any, list_all, range_with_len}
 use Rattle.std.proofs.lemmas.List.{append-nil, length-map}
 use Rattle.std.proofs.lemmas.List.Folds.{list_all-append}
 use Rattle.hq_value.specs.declared.table.Kind.{Kind}
-use Rattle.hq_algebra.specs.declared.expr.Expr.{Expr}
 use Rattle.hq_algebra.specs.declared.aggregate.Aggregate.{Aggregate}
 use Rattle.hq_algebra.specs.declared.aggregate.Aggregate.TheVariants as agg
 use Rattle.hq_algebra.specs.declared.op.Op.{Op}
@@ -16,7 +15,7 @@ use Rattle.hq_algebra.specs.declared.plan.Motion.TheVariants as motion
 use Rattle.hq_algebra.specs.declared.query.Query.{Query}
 use denote.Hole.Carrier.{hidden}
 use Rattle.hq_algebra.specs.Rules.{stands_over_pairs, fit_sources, is_count, sums_no_column, is_empty}
-use Rattle.hq_algebra.specs.Kinds.{◌>>=◌, same_kinds}
+use Rattle.hq_algebra.specs.Kinds.{◌>>=◌}
 use Rattle.hq_algebra.specs.Operators.{op_kinds}
 use Rattle.hq_algebra.specs.Queries.{product_kinds, query_kinds}
 use Rattle.hq_algebra.specs.Plans as form
@@ -33,7 +32,7 @@ use Rattle.hq_laws.proofs.Regroup.{flat_map-append}
 use Rattle.hq_laws.proofs.Chains.{AllOf-append}
 use Rattle.hq_laws.proofs.Gathering.{rest-receives}
 use Rattle.hq_laws.proofs.Typing.{Seen, seen-from, all_same_themselves, filters-kinds, final-kinds, tail-kinds}
-use Rattle.hq_laws.proofs.Fitness.{Pass, every-filter, Ignores, through-partial, through-tail, filters-pass, partial-pass, final-pass, tail-pass, filters-count, partial-count, final-count, tail-count, length-finals, conds-fine, partial-fine, final-fine, tail-fine}
+use Rattle.hq_laws.proofs.Fitness.{Pass, every-filter, Ignores, through-partial, through-tail, filters-pass, partial-pass, final-pass, tail-pass, filters-count, partial-count, final-count, tail-count, conds-fine, partial-fine, final-fine, tail-fine}
 use Rattle.hq_laws.proofs.Shapes.{or_true, result-push, fit-append, gather-push, any-received, all_received, received-once, all-operators, none-any, alone}
 
 -- A test that the operators of the product pass: it holds of each Receive of a source, and of a join without keys.

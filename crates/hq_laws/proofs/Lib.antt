@@ -15,6 +15,7 @@ pub mod Products
 pub mod Regroup
 pub mod Runs
 pub mod Shapes
+pub mod SpreadClosed
 pub mod SpreadForm
 pub mod Spreading
 pub mod Stages

@@ -1,5 +1,5 @@
 -- The rules of a well-formed plan, over slices one after the other.
-use Rattle.std.proofs.Common.{◌≡◌, ℕ, zero, suc, ◌+◌, ◌-◌, ◌<◌, ◌≤◌, Bool, true, false, not, cond, ◌&&◌, ◌||◌, ◌==◌, List, [], ◌∷◌, ◌++◌, length, map, flat_map, count_by, refl, sym, ◌∙◌, ap, subst, arith, append_assoc, slice_get}
+use Rattle.std.proofs.Common.{◌≡◌, ℕ, zero, suc, ◌+◌, ◌-◌, ◌<◌, ◌≤◌, Bool, true, false, not, cond, ◌&&◌, ◌||◌, ◌==◌, List, [], ◌∷◌, ◌++◌, length, flat_map, count_by, refl, sym, ◌∙◌, ap, arith, append_assoc}
 use Rattle.std.specs.List.{list_any, list_all, range_with_len}
 use Rattle.std.proofs.lemmas.List.{append-nil}
 use Rattle.std.proofs.lemmas.List.Folds.{list_all-append, list_any-append}
@@ -9,7 +9,7 @@ use Rattle.hq_algebra.specs.declared.plan.Slice.{Slice}
 use Rattle.hq_algebra.specs.Plans.{operators, received, is_result, ends_with_result, fits_before, fit_in_order, gathers, receives_a_gather, ends_with_gather, all_operators, are_received_once, only_gathers, gathers_alone}
 use Rattle.hq_meaning.specs.Slices.{receives}
 use Rattle.hq_laws.proofs.Lists.{AllOf, occurs}
-use Rattle.hq_laws.proofs.Regroup.{flat_map-append, flat_map-flat_map}
+use Rattle.hq_laws.proofs.Regroup.{flat_map-flat_map}
 
 pub or_true : (a : Bool) → (a || true) ≡ true
 or_true true = refl

@@ -1,38 +1,32 @@
 -- The plan that joins and groups on all nodes is well formed.
-use Rattle.std.proofs.Common.{◌≡◌, ℕ, zero, suc, ◌+◌, ◌*◌, ◌<◌, ◌≤◌, ◌==◌, Bool, true, false, not, cond, ◌&&◌, ◌||◌, List, [], ◌∷◌, ◌++◌, length, map, flat_map, Option, Some, None, is_some, refl, sym, ◌∙◌, ap, subst, arith, append_assoc, length-append, nat_le, nat_lt, slice_get, IsTrue}
-use Rattle.std.specs.Option.{option_map_or}
-use Rattle.std.specs.List.{list_any, list_all, range_with_len}
-use Rattle.std.proofs.lemmas.List.{append-nil, length-map}
+use Rattle.std.proofs.Common.{◌≡◌, ℕ, zero, suc, ◌+◌, ◌*◌, ◌≤◌, ◌==◌, Bool, true, false, not, cond, ◌&&◌, ◌||◌, List, [], ◌∷◌, ◌++◌, length, Option, Some, None, is_some, refl, sym, ◌∙◌, ap, subst, arith, append_assoc, length-append, nat_le, nat_lt, slice_get}
+use Rattle.std.specs.List.{list_any, list_all}
+use Rattle.std.proofs.lemmas.List.{append-nil}
 use Rattle.std.proofs.lemmas.List.Folds.{list_all-append}
 use Rattle.hq_value.specs.declared.table.Kind.{Kind}
-use Rattle.hq_algebra.specs.declared.expr.Expr.{Expr}
 use Rattle.hq_algebra.specs.declared.op.Op.{Op}
 use Rattle.hq_algebra.specs.declared.op.Op.TheVariants as op
 use Rattle.hq_algebra.specs.declared.op.Op.TheBlock.{hidden-the_row-Op-0}
 use Rattle.hq_algebra.specs.declared.plan.Motion.{Motion}
 use Rattle.hq_algebra.specs.declared.plan.Slice.{Slice}
 use Rattle.hq_algebra.specs.declared.plan.Motion.TheVariants as motion
-use Rattle.hq_algebra.specs.declared.query.Query.{Query}
 use denote.Hole.Carrier.{hidden}
-use Rattle.hq_algebra.specs.Rules.{stands_over_pairs, fit_sources, is_empty}
+use Rattle.hq_algebra.specs.Rules.{is_empty}
 use Rattle.hq_algebra.specs.Kinds.{◌>>=◌, same_kinds, some_if}
 use Rattle.hq_algebra.specs.Operators.{op_kinds, keys_kinds, join_kinds}
-use Rattle.hq_algebra.specs.Queries.{product_kinds, query_kinds}
 use Rattle.hq_algebra.specs.Plans as form
 use Rattle.hq_algebra.specs.Plans.{operators, received, is_short, is_join, op_is_fine, slice_is_fine, motion_is_fine, motion_stands, is_result, is_gather, ends_with_result, are_sent, receives_what_is_sent, gathers, only_gathers, gathers_alone, fits_before, fit_in_order, ends_with_gather, receives_a_gather, all_operators, are_received_once, joins_without_counts, are_well_formed, is_well_formed, keys_stand}
 use Rattle.hq_meaning.specs.Slices.{receives}
-use Rattle.hq_laws.specs.Stages.{filters, partial_op, final_aggregates, final_op, tail_op, sending}
-use Rattle.hq_laws.specs.Spread.{Way, CopyRight, CopyLeft, MoveBoth, MoveLeft, Joining, Built, first_source, added_slices, left_side, right_side, with_source, with_sources, closed, spread_plan}
-use Rattle.hq_laws.specs.Room.{is_table, are_few, has_room, way_stands, is_joinable, are_joinable, sent_kinds, is_sendable}
+use Rattle.hq_laws.specs.Stages.{sending}
+use Rattle.hq_laws.specs.Spread.{Way, CopyRight, CopyLeft, MoveBoth, MoveLeft, Built, first_source, added_slices, left_side, right_side}
+use Rattle.hq_laws.specs.Room.{is_table, way_stands, is_sendable}
 use Rattle.hq_laws.proofs.Lists.{AllOf, occurs, occurs-append}
 use Rattle.hq_laws.proofs.Partners.{both_true}
 use Rattle.hq_laws.proofs.Regroup.{flat_map-append}
 use Rattle.hq_laws.proofs.Chains.{AllOf-append}
-use Rattle.hq_laws.proofs.Stages.{filters-receives, partial-receives, final-receives, tail-receives}
-use Rattle.hq_laws.proofs.Typing.{Seen, seen-from, all_same_themselves, filters-kinds, final-kinds, tail-kinds}
-use Rattle.hq_laws.proofs.Fitness.{Pass, Ignores, through-partial, through-tail, filters-count, partial-count, final-count, tail-count, conds-fine, partial-fine, final-fine, tail-fine}
-use Rattle.hq_laws.proofs.Shapes.{or_true, result-push, fit-append, gather-push, any-received, all_received, received-once, all-operators, none-any, alone}
-use Rattle.hq_laws.proofs.GatheredForm.{pairs-middle, pairs-tail, not-joins}
+use Rattle.hq_laws.proofs.Typing.{all_same_themselves}
+use Rattle.hq_laws.proofs.Fitness.{Pass}
+use Rattle.hq_laws.proofs.Shapes.{fit-append, any-received, all_received}
 
 -- no slice gathers
 abbrev NoneGather : List Slice → Type 0
@@ -43,14 +37,14 @@ no-gathers [] none i = refl
 no-gathers (s ∷ slices) none zero = none.0
 no-gathers (s ∷ slices) none (suc i) = no-gathers slices none.1 i
 
-receives-none : (slices : List Slice) → NoneGather slices → (root : Op) → list_any (receives_a_gather slices) (operators root) ≡ false
+pub receives-none : (slices : List Slice) → NoneGather slices → (root : Op) → list_any (receives_a_gather slices) (operators root) ≡ false
 receives-none slices none root = any-received slices root ∙ any-none (receives root)
   where
     any-none : (is : List ℕ) → list_any (gathers slices) is ≡ false
     any-none [] = refl
     any-none (i ∷ is) = λ t. no-gathers slices none i t || any-none is t
 
-place : (xs : List Slice) (s : Slice) (more : List Slice) → slice_get (xs ++ s ∷ more) (length xs) ≡ Some s
+pub place : (xs : List Slice) (s : Slice) (more : List Slice) → slice_get (xs ++ s ∷ more) (length xs) ≡ Some s
 place [] s more = refl
 place (x ∷ xs) s more = place xs s more
 
@@ -59,7 +53,7 @@ place-next [] r s more = refl
 place-next (x ∷ xs) r s more = place-next xs r s more
 
 -- a Receive of what was sent
-sent-there : (ks : List Kind) → is_sendable ks ≡ true → (o : Option Slice) (s : Slice) → o ≡ Some s → op_kinds s.root ≡ Some ks → are_sent ks (o >>= (λ s. op_kinds s.root)) ≡ true
+pub sent-there : (ks : List Kind) → is_sendable ks ≡ true → (o : Option Slice) (s : Slice) → o ≡ Some s → op_kinds s.root ≡ Some ks → are_sent ks (o >>= (λ s. op_kinds s.root)) ≡ true
 sent-there ks some o s e h =
     ap (λ p. are_sent ks (p >>= (λ s. op_kinds s.root))) e ∙ ap (are_sent ks) h ∙ (λ i. all_same_themselves ks i && (both_true (not (is_empty ks)) (is_short ks) some).0 i)
 
@@ -338,7 +332,7 @@ module _ (kinds : ℕ → List Kind) (b : Built) (k : ℕ) (f : Formed kinds b k
           width = next-width;
         }
 
-    formed-by : (way : Way) → way_stands way b.kinds (kinds t) lk rk ≡ true → Formed kinds (next way) (suc k)
+    pub formed-by : (way : Way) → way_stands way b.kinds (kinds t) lk rk ≡ true → Formed kinds (next way) (suc k)
     formed-by CopyRight h = formed-copy-right
     formed-by CopyLeft h = formed-left motion.Broadcast refl refl refl
     formed-by MoveBoth h = let both : (keys_stand lk (Some b.kinds) ≡ true) × (keys_stand rk (Some (kinds t)) ≡ true) = both_true (keys_stand lk (Some b.kinds)) (keys_stand rk (Some (kinds t))) h in formed-both both.0 both.1

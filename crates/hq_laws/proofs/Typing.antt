@@ -1,13 +1,10 @@
 -- The kinds of what the stages of a plan give.
-use Rattle.std.proofs.Common.{◌≡◌, ℕ, zero, suc, ◌+◌, Bool, true, false, not, ◌&&◌, List, [], ◌∷◌, ◌++◌, length, map, take, drop, cond, is_some, Option, Some, None, refl, sym, ◌∙◌, ap, subst, arith, append_assoc, length-append, nat_le, slice_get, IsTrue}
+use Rattle.std.proofs.Common.{◌≡◌, ℕ, suc, ◌+◌, Bool, true, false, ◌&&◌, List, [], ◌∷◌, ◌++◌, length, take, cond, is_some, Option, Some, None, refl, sym, ◌∙◌, ap, subst, arith, append_assoc, length-append, nat_le, slice_get, IsTrue}
 use Rattle.std.specs.List.{list_all}
-use Rattle.std.specs.Cmp.Lexicographic.{pointwise}
-use Rattle.std.proofs.lemmas.List.{append-nil}
 use Rattle.std.proofs.Math.Seq.{take-append_seam, drop-append_seam}
 use Rattle.hq_value.specs.declared.table.Kind.{Kind}
 use Rattle.hq_value.specs.declared.table.Kind.TheVariants as kind
 use Rattle.hq_algebra.specs.declared.expr.Expr.{Expr}
-use Rattle.hq_algebra.specs.declared.expr.Expr.TheVariants as expr
 use Rattle.hq_algebra.specs.declared.aggregate.Aggregate.{Aggregate}
 use Rattle.hq_algebra.specs.declared.aggregate.Aggregate.TheVariants as agg
 use Rattle.hq_algebra.specs.declared.op.Op.{Op}
@@ -20,7 +17,7 @@ use Rattle.hq_algebra.specs.Kinds.{◌>>=◌, every, same_kind, same_kinds, is_o
 use Rattle.hq_algebra.specs.Operators.{keys_kinds, items_kinds, values_kinds, tells_its_kind, filter_kinds, partial_kinds, are_finals, final_kinds, sort_kinds, op_kinds}
 use Rattle.hq_algebra.specs.Queries.{product_kinds, group_kinds, seen_kinds, are_conditions, query_kinds}
 use Rattle.hq_meaning.specs.Operators.{width}
-use Rattle.hq_laws.specs.Stages.{filters, partial_op, final_aggregate, final_aggregates, final_op, distinct_op, tail_op}
+use Rattle.hq_laws.specs.Stages.{filters, partial_op, final_aggregate, final_aggregates, final_op, tail_op}
 use Rattle.hq_laws.proofs.Partners.{both_true}
 
 -- conditions

@@ -1,7 +1,7 @@
 -- What a well-formed plan has room for.
 --     has_room kinds q              the tables, lists and conditions of a query fit into a plan
 --     are_joinable kinds left js    the keys of each join fit
---     sent_kinds kinds q            the kinds of what the slice before the last one sends
+--     kinds_sent kinds q            the kinds of what the slice before the last one sends
 use Rattle.std.specs.Prelude.{ℕ, ◌+◌, Bool, true, not, ◌&&◌, List, [], ◌∷◌, ◌++◌, length, nat_le, Option, Some, is_some, if◌then◌else◌}
 use Rattle.std.specs.List.{list_all}
 use Rattle.hq_value.specs.declared.table.Kind.{Kind}
@@ -39,8 +39,8 @@ are_joinable kinds left [] = true
 are_joinable kinds left (j ∷ js) = is_joinable left (kinds j.table) j && are_joinable kinds (left ++ kinds j.table) js
 
 -- the kinds of what the slice before the last one sends: the columns of the partial groups
-abbrev pub sent_kinds : (ℕ → List Kind) → Query → Option (List Kind)
-sent_kinds kinds q = if q.grouped then partial_kinds q.groups q.aggregates (product_kinds kinds q) else Some (product_kinds kinds q)
+abbrev pub kinds_sent : (ℕ → List Kind) → Query → Option (List Kind)
+kinds_sent kinds q = if q.grouped then partial_kinds q.groups q.aggregates (product_kinds kinds q) else Some (product_kinds kinds q)
 
 -- there are some, and not too many
 abbrev pub is_sendable : List Kind → Bool
