@@ -9,7 +9,7 @@ use Rattle.hq_meaning.specs.Rows.{Row, pairs, kept}
 use Rattle.hq_meaning.specs.Operators.{matches, beside, joined}
 use Rattle.hq_meaning.specs.Mean.{product}
 use Rattle.hq_laws.specs.Spread.{Joining, AreImplied, KeysAreImplied}
-use Rattle.hq_laws.proofs.Lists.{AllOf}
+use Rattle.std.specs.List.{AllByRecursion}
 use Rattle.hq_laws.proofs.Regroup.{flat_map-append}
 use Rattle.hq_laws.proofs.Products.{pairs-one, pairs-assoc}
 
@@ -17,27 +17,27 @@ use Rattle.hq_laws.proofs.Products.{pairs-one, pairs-assoc}
 abbrev pub IsWide : ℕ → Row → Type 0
 IsWide n row = length row ≡ n
 
-pub AllOf-append : {A : Type 0} (P : A → Type 0) (xs ys : List A) → AllOf P xs → AllOf P ys → AllOf P (xs ++ ys)
-AllOf-append P [] ys a b = b
-AllOf-append P (x ∷ xs) ys a b = (a.0, AllOf-append P xs ys a.1 b)
+pub AllByRecursion-append : {A : Type 0} (P : A → Type 0) (xs ys : List A) → AllByRecursion P xs → AllByRecursion P ys → AllByRecursion P (xs ++ ys)
+AllByRecursion-append P [] ys a b = b
+AllByRecursion-append P (x ∷ xs) ys a b = (a.0, AllByRecursion-append P xs ys a.1 b)
 
-pub AllOf-flat_map : {A : Type 0} (P : Row → Type 0) (f : A → List Row) → ((x : A) → AllOf P (f x)) → (xs : List A) → AllOf P (flat_map f xs)
-AllOf-flat_map P f h [] = tt
-AllOf-flat_map P f h (x ∷ xs) = AllOf-append P (f x) (flat_map f xs) (h x) (AllOf-flat_map P f h xs)
+pub AllByRecursion-flat_map : {A : Type 0} (P : Row → Type 0) (f : A → List Row) → ((x : A) → AllByRecursion P (f x)) → (xs : List A) → AllByRecursion P (flat_map f xs)
+AllByRecursion-flat_map P f h [] = tt
+AllByRecursion-flat_map P f h (x ∷ xs) = AllByRecursion-append P (f x) (flat_map f xs) (h x) (AllByRecursion-flat_map P f h xs)
 
 -- pairs are as wide as both rows
 module _ (w v : ℕ) (lk rk : List ℕ) where
-  beside-wide : (l : Row) → length l ≡ w → (right : List Row) → AllOf (IsWide v) right → AllOf (IsWide (w + v)) (beside lk rk right l)
+  beside-wide : (l : Row) → length l ≡ w → (right : List Row) → AllByRecursion (IsWide v) right → AllByRecursion (IsWide (w + v)) (beside lk rk right l)
   beside-wide l e [] all = tt
   beside-wide l e (r ∷ right) all = by (matches lk rk l r) (beside-wide l e right all.1)
     where
-      by : (b : Bool) → AllOf (IsWide (w + v)) (beside lk rk right l) → AllOf (IsWide (w + v)) (map (λ r. l ++ r) (cond b (r ∷ filter (matches lk rk l) right) (filter (matches lk rk l) right)))
+      by : (b : Bool) → AllByRecursion (IsWide (w + v)) (beside lk rk right l) → AllByRecursion (IsWide (w + v)) (map (λ r. l ++ r) (cond b (r ∷ filter (matches lk rk l) right) (filter (matches lk rk l) right)))
       by true rest = (length-append l r ∙ (λ i. e i + all.0 i), rest)
       by false rest = rest
 
-  pub joined-wide : (left right : List Row) → AllOf (IsWide w) left → AllOf (IsWide v) right → AllOf (IsWide (w + v)) (joined lk rk left right)
+  pub joined-wide : (left right : List Row) → AllByRecursion (IsWide w) left → AllByRecursion (IsWide v) right → AllByRecursion (IsWide (w + v)) (joined lk rk left right)
   joined-wide [] right a b = tt
-  joined-wide (l ∷ left) right a b = AllOf-append (IsWide (w + v)) (beside lk rk right l) (joined lk rk left right) (beside-wide l a.0 right b) (joined-wide left right a.1 b)
+  joined-wide (l ∷ left) right a b = AllByRecursion-append (IsWide (w + v)) (beside lk rk right l) (joined lk rk left right) (beside-wide l a.0 right b) (joined-wide left right a.1 b)
 
 -- one join
 module _ (w v : ℕ) (conds : List Expr) (lk rk : List ℕ) (implied : AreImplied w v conds lk rk) where
@@ -54,7 +54,7 @@ module _ (w v : ℕ) (conds : List Expr) (lk rk : List ℕ) (implied : AreImplie
       fails true g = let u : true ≡ false = sym (implied l r s e f (ap passes (sym (append_assoc l r s)) ∙ g)) ∙ apart in cc
       fails false g = g
 
-  kept-beside : (others : List Row) (l : Row) → length l ≡ w → (right : List Row) → AllOf (IsWide v) right → kept conds (pairs (beside lk rk right l) others) ≡ kept conds (pairs (map (λ r. l ++ r) right) others)
+  kept-beside : (others : List Row) (l : Row) → length l ≡ w → (right : List Row) → AllByRecursion (IsWide v) right → kept conds (pairs (beside lk rk right l) others) ≡ kept conds (pairs (map (λ r. l ++ r) right) others)
   kept-beside others l e [] all = refl
   kept-beside others l e (r ∷ right) all = by (matches lk rk l r) refl (kept-beside others l e right all.1)
     where
@@ -69,7 +69,7 @@ module _ (w v : ℕ) (conds : List Expr) (lk rk : List ℕ) (implied : AreImplie
           ∙ ap (λ t. t ++ kept conds (pairs (map (λ r. l ++ r) right) others)) (sym (none-pass l r e all.0 g others))
           ∙ sym (filter-append passes (map (λ s. (l ++ r) ++ s) others) (pairs (map (λ r. l ++ r) right) others))
 
-  pub kept-joined : (others left right : List Row) → AllOf (IsWide w) left → AllOf (IsWide v) right → kept conds (pairs (joined lk rk left right) others) ≡ kept conds (pairs (pairs left right) others)
+  pub kept-joined : (others left right : List Row) → AllByRecursion (IsWide w) left → AllByRecursion (IsWide v) right → kept conds (pairs (joined lk rk left right) others) ≡ kept conds (pairs (pairs left right) others)
   kept-joined others [] right a b = refl
   kept-joined others (l ∷ left) right a b =
       ap (kept conds) (flat_map-append (λ x. map (λ s. x ++ s) others) (beside lk rk right l) (joined lk rk left right))
@@ -83,8 +83,8 @@ abbrev pub chained : (ℕ → List Row) → List Row → List Joining → List R
 chained g rows [] = rows
 chained g rows (j ∷ js) = chained g (joined j.left_keys j.right_keys rows (g j.table)) js
 
-module _ (kinds : ℕ → List Kind) (conds : List Expr) (g : ℕ → List Row) (wide : (t : ℕ) → AllOf (IsWide (length (kinds t))) (g t)) where
-  pub kept-chained : (w : ℕ) (rows : List Row) (js : List Joining) → AllOf (IsWide w) rows → KeysAreImplied kinds conds w js → kept conds (chained g rows js) ≡ kept conds (pairs rows (product (map g (map (λ (j : Joining). j.table) js))))
+module _ (kinds : ℕ → List Kind) (conds : List Expr) (g : ℕ → List Row) (wide : (t : ℕ) → AllByRecursion (IsWide (length (kinds t))) (g t)) where
+  pub kept-chained : (w : ℕ) (rows : List Row) (js : List Joining) → AllByRecursion (IsWide w) rows → KeysAreImplied kinds conds w js → kept conds (chained g rows js) ≡ kept conds (pairs rows (product (map g (map (λ (j : Joining). j.table) js))))
   kept-chained w rows [] all implied = ap (kept conds) (sym (pairs-one rows))
   kept-chained w rows (j ∷ js) all implied =
       kept-chained (w + length (kinds j.table)) (joined j.left_keys j.right_keys rows (g j.table)) js

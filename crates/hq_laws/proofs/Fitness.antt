@@ -16,12 +16,12 @@ use Rattle.hq_algebra.specs.Rules.{cannot_fault, are_small, argument, arguments}
 use Rattle.hq_algebra.specs.Plans.{operators, is_short, op_is_fine}
 use Rattle.hq_meaning.specs.Operators.{width}
 use Rattle.hq_laws.specs.Stages.{filters, partial_op, final_aggregate, final_aggregates, final_op, distinct_op, tail_op}
-use Rattle.hq_laws.proofs.Lists.{AllOf}
+use Rattle.std.specs.List.{AllByRecursion}
 use Rattle.hq_laws.proofs.Partners.{both_true}
 
 -- A test that each operator of a stage passes, and those below it.
 abbrev pub PassFilters : (Op → Bool) → List Expr → Type 0
-PassFilters P conds = AllOf (λ c. (x : Op) → P (op.Filter c x) ≡ true) conds
+PassFilters P conds = AllByRecursion (λ c. (x : Op) → P (op.Filter c x) ≡ true) conds
 
 module _ (P : Op → Bool) where
   abbrev pub Pass : Op → Type 0

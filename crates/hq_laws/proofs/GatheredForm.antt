@@ -25,11 +25,12 @@ use Rattle.hq_meaning.specs.Slices.{receives}
 use Rattle.hq_laws.specs.Stages.{filters, partial_op, final_aggregate, final_aggregates, final_op, tail_op, sending}
 use Rattle.hq_laws.specs.Gathered.{product_from, product_op, rest_op, scan_slice, gathered_plan}
 use Rattle.hq_laws.specs.Room.{is_table, are_few, has_room}
-use Rattle.hq_laws.proofs.Lists.{AllOf, occurs}
+use Rattle.std.specs.List.{AllByRecursion}
+use Rattle.hq_laws.proofs.Lists.{occurs}
 use Rattle.hq_laws.proofs.Partners.{both_true}
 use Rattle.hq_laws.proofs.Owners.{once-from}
 use Rattle.hq_laws.proofs.Regroup.{flat_map-append}
-use Rattle.hq_laws.proofs.Chains.{AllOf-append}
+use Rattle.hq_laws.proofs.Chains.{AllByRecursion-append}
 use Rattle.hq_laws.proofs.Gathering.{rest-receives}
 use Rattle.hq_laws.proofs.Typing.{Seen, seen-from, all_same_themselves, filters-kinds, final-kinds, tail-kinds}
 use Rattle.hq_laws.proofs.Fitness.{Pass, every-filter, Ignores, through-partial, through-tail, filters-pass, partial-pass, final-pass, tail-pass, filters-count, partial-count, final-count, tail-count, conds-fine, partial-fine, final-fine, tail-fine}
@@ -120,7 +121,7 @@ module _ (kinds : ℕ → List Kind) where
       next : (i : ℕ) → suc i ≡ i + 1
       next i = omega arith
 
-  scans-out : (ts : List ℕ) → AllOf (λ (s : Slice). is_result s.out ≡ false) (map (scan_slice kinds) ts)
+  scans-out : (ts : List ℕ) → AllByRecursion (λ (s : Slice). is_result s.out ≡ false) (map (scan_slice kinds) ts)
   scans-out [] = tt
   scans-out (t ∷ ts) = (refl, scans-out ts)
 
@@ -136,7 +137,7 @@ module _ (kinds : ℕ → List Kind) where
   scans-receive [] = refl
   scans-receive (t ∷ ts) = scans-receive ts
 
-  scans-operators : (p : Op → Bool) → ((t : ℕ) → p (op.Scan t (kinds t)) ≡ true) → (ts : List ℕ) → AllOf (λ (s : Slice). list_all p (operators s.root) ≡ true) (map (scan_slice kinds) ts)
+  scans-operators : (p : Op → Bool) → ((t : ℕ) → p (op.Scan t (kinds t)) ≡ true) → (ts : List ℕ) → AllByRecursion (λ (s : Slice). list_all p (operators s.root) ≡ true) (map (scan_slice kinds) ts)
   scans-operators p h [] = tt
   scans-operators p h (t ∷ ts) = ((λ i. h t i && true), scans-operators p h ts)
 
@@ -264,9 +265,9 @@ module _ (kinds : ℕ → List Kind) where
       where
         by : (us : List ℕ) → ts ≡ us → joins_without_counts (all_operators (scans ++ last ∷ [])) ≡ true
         by [] e = ap (λ b. not b || list_all form.stands_over_pairs (all_operators (scans ++ last ∷ []))) (none-any is_join (all_operators (scans ++ last ∷ [])) (all-operators (λ o. not (is_join o)) (scans ++ last ∷ [])
-            (AllOf-append (λ (s : Slice). list_all (λ o. not (is_join o)) (operators s.root) ≡ true) scans (last ∷ []) (scans-operators (λ o. not (is_join o)) (λ t. refl) all) (single e, tt))))
+            (AllByRecursion-append (λ (s : Slice). list_all (λ o. not (is_join o)) (operators s.root) ≡ true) scans (last ∷ []) (scans-operators (λ o. not (is_join o)) (λ t. refl) all) (single e, tt))))
         by (u ∷ us) e = ap (λ b. not (list_any is_join (all_operators (scans ++ last ∷ []))) || b) (all-operators form.stands_over_pairs (scans ++ last ∷ [])
-            (AllOf-append (λ (s : Slice). list_all form.stands_over_pairs (operators s.root) ≡ true) scans (last ∷ []) (scans-operators form.stands_over_pairs (λ t. refl) all) (several u us e, tt)))
+            (AllByRecursion-append (λ (s : Slice). list_all form.stands_over_pairs (operators s.root) ≡ true) scans (last ∷ []) (scans-operators form.stands_over_pairs (λ t. refl) all) (several u us e, tt)))
             ∙ or_true (not (list_any is_join (all_operators (scans ++ last ∷ []))))
 
     two-to-64 : (n : ℕ) → suc n ≤ 8 → (m : ℕ) → m ≡ suc n + 1 → (nat_le 2 m && nat_le m 64) ≡ true

@@ -17,7 +17,7 @@ use Rattle.hq_meaning.specs.Aggregates.{number, from_number, plus, added, togeth
 use Rattle.hq_meaning.specs.Groups.{key_of, keys_found, group_keys, members, group_row, grouped, some_leaves_64}
 use Rattle.hq_meaning.specs.Halves.{halves, whole}
 use Rattle.hq_meaning.specs.Operators.{columns_of, width, read, partial_row, partial, final_values, final_row, final, value_leaves, final_faults}
-use Rattle.hq_laws.proofs.Lists.{AllOf}
+use Rattle.std.specs.List.{AllByRecursion}
 use Rattle.hq_meaning.proofs.Bags.{same_equal, times-firsts, any-SameBag, SameBag-trans, SameBag-equal, SameBag-map}
 use Rattle.hq_meaning.proofs.Together.{null-over, over-append}
 use Rattle.hq_laws.proofs.Regroup.{flat_map-append}
@@ -191,36 +191,36 @@ any-append p [] ys = refl
 any-append p (x ∷ xs) ys = ap (λ b. p x || b) (any-append p xs ys) ∙ sym (or_assoc (p x) (list_any p xs) (list_any p ys))
 
 -- what holds of flat_map element
-AllOf-filter : (P : Row → Type 0) (q : Row → Bool) (xs : List Row) → AllOf P xs → AllOf P (filter q xs)
-AllOf-filter P q [] all = tt
-AllOf-filter P q (x ∷ xs) all = by (q x) (AllOf-filter P q xs all.1)
+AllByRecursion-filter : (P : Row → Type 0) (q : Row → Bool) (xs : List Row) → AllByRecursion P xs → AllByRecursion P (filter q xs)
+AllByRecursion-filter P q [] all = tt
+AllByRecursion-filter P q (x ∷ xs) all = by (q x) (AllByRecursion-filter P q xs all.1)
   where
-    by : (b : Bool) → AllOf P (filter q xs) → AllOf P (cond b (x ∷ filter q xs) (filter q xs))
+    by : (b : Bool) → AllByRecursion P (filter q xs) → AllByRecursion P (cond b (x ∷ filter q xs) (filter q xs))
     by true rest = (all.0, rest)
     by false rest = rest
 
-AllOf-firsts : (P : Row → Type 0) (xs : List Row) → AllOf P xs → AllOf P (firsts xs)
-AllOf-firsts P [] all = tt
-AllOf-firsts P (x ∷ xs) all = (all.0, AllOf-filter P (λ y. not (same_row x y)) (firsts xs) (AllOf-firsts P xs all.1))
+AllByRecursion-firsts : (P : Row → Type 0) (xs : List Row) → AllByRecursion P xs → AllByRecursion P (firsts xs)
+AllByRecursion-firsts P [] all = tt
+AllByRecursion-firsts P (x ∷ xs) all = (all.0, AllByRecursion-filter P (λ y. not (same_row x y)) (firsts xs) (AllByRecursion-firsts P xs all.1))
 
-AllOf-map : (P : Row → Type 0) (f : Row → Row) → ((x : Row) → P (f x)) → (xs : List Row) → AllOf P (map f xs)
-AllOf-map P f h [] = tt
-AllOf-map P f h (x ∷ xs) = (h x, AllOf-map P f h xs)
+AllByRecursion-map : (P : Row → Type 0) (f : Row → Row) → ((x : Row) → P (f x)) → (xs : List Row) → AllByRecursion P (map f xs)
+AllByRecursion-map P f h [] = tt
+AllByRecursion-map P f h (x ∷ xs) = (h x, AllByRecursion-map P f h xs)
 
-pub map-agree : {B : Type 0} (P : Row → Type 0) (f g : Row → B) → ((x : Row) → P x → f x ≡ g x) → (xs : List Row) → AllOf P xs → map f xs ≡ map g xs
+pub map-agree : {B : Type 0} (P : Row → Type 0) (f g : Row → B) → ((x : Row) → P x → f x ≡ g x) → (xs : List Row) → AllByRecursion P xs → map f xs ≡ map g xs
 map-agree P f g h [] all = refl
 map-agree P f g h (x ∷ xs) all = λ i. h x all.0 i ∷ map-agree P f g h xs all.1 i
 
-pub any-agree : (P : Row → Type 0) (f g : Row → Bool) → ((x : Row) → P x → f x ≡ g x) → (xs : List Row) → AllOf P xs → list_any f xs ≡ list_any g xs
+pub any-agree : (P : Row → Type 0) (f g : Row → Bool) → ((x : Row) → P x → f x ≡ g x) → (xs : List Row) → AllByRecursion P xs → list_any f xs ≡ list_any g xs
 any-agree P f g h [] all = refl
 any-agree P f g h (x ∷ xs) all = λ i. h x all.0 i || any-agree P f g h xs all.1 i
 
 abbrev IsLong : ℕ → Row → Type 0
 IsLong n k = length k ≡ n
 
-keys-long : (keys : List ℕ) (rows : List Row) → AllOf (IsLong (length keys)) (group_keys keys rows)
+keys-long : (keys : List ℕ) (rows : List Row) → AllByRecursion (IsLong (length keys)) (group_keys keys rows)
 keys-long [] rows = (refl, tt)
-keys-long (key ∷ keys) rows = AllOf-firsts (IsLong (length (key ∷ keys))) _ (AllOf-map (IsLong (length (key ∷ keys))) (key_of (key ∷ keys)) (λ row. length-map (key ∷ keys) (column row)) rows)
+keys-long (key ∷ keys) rows = AllByRecursion-firsts (IsLong (length (key ∷ keys))) _ (AllByRecursion-map (IsLong (length (key ∷ keys))) (key_of (key ∷ keys)) (λ row. length-map (key ∷ keys) (column row)) rows)
 
 take-key : (n : ℕ) (k rest : Row) → length k ≡ n → take n (k ++ rest) ≡ k
 take-key n k rest e = ap (λ m. take m (k ++ rest)) (sym e) ∙ take-append_seam k rest
@@ -236,7 +236,7 @@ module _ (keys : List ℕ) (aggs : List Aggregate) where
   abbrev in_part : List Row → Row → Aggregate → Value
   in_part p k a = over a (map (added a) (members (key_of keys) k p))
 
-  members-map : (F : Row → Row) (rest : Row → Row) → ((x : Row) → F x ≡ x ++ rest x) → (k : Row) (ks : List Row) → AllOf (IsLong count) ks
+  members-map : (F : Row → Row) (rest : Row → Row) → ((x : Row) → F x ≡ x ++ rest x) → (k : Row) (ks : List Row) → AllByRecursion (IsLong count) ks
       → members (take count) k (map F ks) ≡ map F (filter (same_row k) ks)
   members-map F rest shape k [] all = refl
   members-map F rest shape k (x ∷ ks) all =
@@ -365,7 +365,7 @@ module _ (keys : List ℕ) (aggs : List Aggregate) where
   final-leaves ps k long = (λ j. value_leaves aggs (start j) (members-parts k ps j)) ∙ leaves ps k long [] aggs refl
 
 -- the keys of the groups
-any-long : (n : ℕ) (z : Row) (F : Row → Row) (rest : Row → Row) → ((x : Row) → F x ≡ x ++ rest x) → (ks : List Row) → AllOf (IsLong n) ks → list_any (same_row z) (map (take n) (map F ks)) ≡ list_any (same_row z) ks
+any-long : (n : ℕ) (z : Row) (F : Row → Row) (rest : Row → Row) → ((x : Row) → F x ≡ x ++ rest x) → (ks : List Row) → AllByRecursion (IsLong n) ks → list_any (same_row z) (map (take n) (map F ks)) ≡ list_any (same_row z) ks
 any-long n z F rest shape [] all = refl
 any-long n z F rest shape (k ∷ ks) all = λ i. same_row z ((ap (take n) (shape k) ∙ take-key n k (rest k) all.0) i) || any-long n z F rest shape ks all.1 i
 

@@ -11,7 +11,8 @@ use Rattle.hq_meaning.specs.Aggregates.{arguments_fault, argument_faults}
 use Rattle.hq_meaning.specs.Operators.{joined, partial, final, final_faults}
 use Rattle.hq_meaning.specs.Nodes.{nodes_of, home}
 use Rattle.hq_laws.specs.Words.{IsOwner}
-use Rattle.hq_laws.proofs.Lists.{occurs, AllOf}
+use Rattle.std.specs.List.{AllByRecursion}
+use Rattle.hq_laws.proofs.Lists.{occurs}
 use Rattle.hq_meaning.proofs.Bags.{any-SameBag, SameBag-trans, SameBag-sym}
 use Rattle.hq_laws.proofs.Partners.{join-regrouped, matches-home}
 use Rattle.hq_meaning.proofs.MeanLaw.{grouped-SameBag, some_leaves_64-SameBag}
@@ -68,17 +69,17 @@ once owner b owned h =
     occurs-filter (slice_index owner b) (λ n. list_any (λ m. m == n) owner) (range_with_len 0 16) (has_owner owner b h)
     ∙ once-from (slice_index owner b) 0 16 (omega arith) (owned.1 b 0 h)
 
-AllOf-range : (P : ℕ → Type 0) (a n : ℕ) → ((k : ℕ) → k < a + n → P k) → AllOf P (range_with_len a n)
-AllOf-range P a zero h = tt
-AllOf-range P a (suc n) h = (h a (omega arith), AllOf-range P (a + 1) n (λ k l. h k (omega arith)))
+AllByRecursion-range : (P : ℕ → Type 0) (a n : ℕ) → ((k : ℕ) → k < a + n → P k) → AllByRecursion P (range_with_len a n)
+AllByRecursion-range P a zero h = tt
+AllByRecursion-range P a (suc n) h = (h a (omega arith), AllByRecursion-range P (a + 1) n (λ k l. h k (omega arith)))
 
 -- each bucket's owner stands once among the nodes
-pub all_once : (owner : List ℕ) → IsOwner owner → AllOf (λ b. occurs (slice_index owner b) (nodes_of owner) ≡ 1) (range_with_len 0 (length owner))
-all_once owner owned = AllOf-range (λ b. occurs (slice_index owner b) (nodes_of owner) ≡ 1) 0 (length owner) (λ b h. once owner b owned (omega arith))
+pub all_once : (owner : List ℕ) → IsOwner owner → AllByRecursion (λ b. occurs (slice_index owner b) (nodes_of owner) ≡ 1) (range_with_len 0 (length owner))
+all_once owner owned = AllByRecursion-range (λ b. occurs (slice_index owner b) (nodes_of owner) ≡ 1) 0 (length owner) (λ b h. once owner b owned (omega arith))
 
-AllOf-each : {A : Type 0} (P : A → Type 0) → ((x : A) → P x) → (xs : List A) → AllOf P xs
-AllOf-each P h [] = tt
-AllOf-each P h (x ∷ xs) = (h x, AllOf-each P h xs)
+AllByRecursion-each : {A : Type 0} (P : A → Type 0) → ((x : A) → P x) → (xs : List A) → AllByRecursion P xs
+AllByRecursion-each P h [] = tt
+AllByRecursion-each P h (x ∷ xs) = (h x, AllByRecursion-each P h xs)
 
 bucket_small : (row : Row) (keys : List ℕ) → bucket_of row keys < 16
 bucket_small row keys = omega arith
@@ -87,7 +88,7 @@ pub joins-regrouped : (owner lk rk : List ℕ) (left right : List Row) → IsOwn
     → SameBag (flat_map (λ n. joined lk rk (filter (λ l. home owner lk l == n) left) (filter (λ r. home owner rk r == n) right)) (nodes_of owner)) (joined lk rk left right)
 joins-regrouped owner lk rk left right owned =
     join-regrouped lk rk (home owner lk) (home owner rk) (matches-home owner lk rk) (nodes_of owner) left right
-    (AllOf-each (λ l. occurs (home owner lk l) (nodes_of owner) ≡ 1) (λ l. once owner (bucket_of l lk) owned (rw owned.0 (bucket_small l lk))) left)
+    (AllByRecursion-each (λ l. occurs (home owner lk l) (nodes_of owner) ≡ 1) (λ l. once owner (bucket_of l lk) owned (rw owned.0 (bucket_small l lk))) left)
 
 -- any split
 pub final-split : (keys : List ℕ) (aggs : List Aggregate) (split : List (List Row)) (whole : List Row) → SameBag (merged split) whole

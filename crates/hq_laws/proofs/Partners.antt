@@ -16,7 +16,8 @@ use Rattle.hq_algebra.specs.Steps.{is_null}
 use Rattle.hq_meaning.specs.Rows.{Row}
 use Rattle.hq_meaning.specs.Operators.{meets, matches, beside, joined}
 use Rattle.hq_meaning.specs.Nodes.{home}
-use Rattle.hq_laws.proofs.Lists.{occurs, AllOf}
+use Rattle.std.specs.List.{AllByRecursion}
+use Rattle.hq_laws.proofs.Lists.{occurs}
 use Rattle.hq_meaning.proofs.Bags.{SameBag-trans, SameBag-equal}
 use Rattle.hq_laws.proofs.Regroup.{flat_map-nil, flat_map-flat_map, regroup}
 
@@ -74,7 +75,7 @@ module _ (lk rk : List ℕ) (pl pr : Row → ℕ) (together : (l r : Row) → ma
       by false e rest = rest
 
   -- both sides regrouped
-  pub join-regrouped : (ns : List ℕ) (left right : List Row) → AllOf (λ l. occurs (pl l) ns ≡ 1) left
+  pub join-regrouped : (ns : List ℕ) (left right : List Row) → AllByRecursion (λ l. occurs (pl l) ns ≡ 1) left
       → SameBag (flat_map (λ n. joined lk rk (filter (λ l. pl l == n) left) (filter (λ r. pr r == n) right)) ns) (joined lk rk left right)
   join-regrouped ns left right all =
       SameBag-trans _ (flat_map (λ n. joined lk rk (filter (λ l. pl l == n) left) right) ns) _

@@ -11,7 +11,7 @@ use Rattle.hq_meaning.specs.Nodes.{nodes_of, lowest}
 use Rattle.hq_meaning.specs.Slices.{receives}
 use Rattle.hq_meaning.specs.Plans.{Parts, Sent, sent_by, own_rows, all_rows, runs_on, run_slice, run_slices, last_rows, answer_after}
 use Rattle.hq_laws.specs.Words.{IsOwner}
-use Rattle.hq_laws.proofs.Lists.{AllOf}
+use Rattle.std.specs.List.{AllByRecursion}
 use Rattle.hq_laws.proofs.Stages.{or_false, or_assoc}
 use Rattle.hq_laws.proofs.Regroup.{regroup}
 use Rattle.hq_laws.proofs.Owners.{all_once}
@@ -47,7 +47,7 @@ sent-next (q ∷ sents) more r s = sent-next sents more r s
 
 -- where no slice gathers, each slice runs on all nodes
 abbrev pub NoGather : List Sent → Type 0
-NoGather sents = AllOf (λ (s : Sent). is_gather s.out ≡ false) sents
+NoGather sents = AllByRecursion (λ (s : Sent). is_gather s.out ≡ false) sents
 
 no-gather_at : (sents : List Sent) → NoGather sents → (i : ℕ) → is_gather (sent_by sents i).out ≡ false
 no-gather_at [] none i = refl

@@ -8,7 +8,8 @@ use Rattle.hq_algebra.specs.declared.op.Op.{Op}
 use Rattle.hq_algebra.specs.declared.plan.Slice.{Slice}
 use Rattle.hq_algebra.specs.Plans.{operators, received, is_result, ends_with_result, fits_before, fit_in_order, gathers, receives_a_gather, ends_with_gather, all_operators, are_received_once, only_gathers, gathers_alone}
 use Rattle.hq_meaning.specs.Slices.{receives}
-use Rattle.hq_laws.proofs.Lists.{AllOf, occurs}
+use Rattle.std.specs.List.{AllByRecursion}
+use Rattle.hq_laws.proofs.Lists.{occurs}
 use Rattle.hq_laws.proofs.Regroup.{flat_map-flat_map}
 
 pub or_true : (a : Bool) → (a || true) ≡ true
@@ -16,7 +17,7 @@ or_true true = refl
 or_true false = refl
 
 -- the last slice alone is Result
-pub result-push : (xs : List Slice) (s : Slice) → AllOf (λ (x : Slice). is_result x.out ≡ false) xs → is_result s.out ≡ true → ends_with_result (xs ++ s ∷ []) ≡ true
+pub result-push : (xs : List Slice) (s : Slice) → AllByRecursion (λ (x : Slice). is_result x.out ≡ false) xs → is_result s.out ≡ true → ends_with_result (xs ++ s ∷ []) ≡ true
 result-push [] s all e = e
 result-push (x ∷ []) s all e = λ i. not (all.0 i) && e i
 result-push (x ∷ y ∷ xs) s all e = λ i. not (all.0 i) && result-push (y ∷ xs) s all.1 e i
@@ -74,7 +75,7 @@ received-once slices n e once =
     below k n h = omega arith
 
 -- what every operator of every slice is
-pub all-operators : (p : Op → Bool) (slices : List Slice) → AllOf (λ (s : Slice). list_all p (operators s.root) ≡ true) slices → list_all p (all_operators slices) ≡ true
+pub all-operators : (p : Op → Bool) (slices : List Slice) → AllByRecursion (λ (s : Slice). list_all p (operators s.root) ≡ true) slices → list_all p (all_operators slices) ≡ true
 all-operators p [] all = refl
 all-operators p (s ∷ slices) all = list_all-append p (operators s.root) (all_operators slices) ∙ (λ i. all.0 i && all-operators p slices all.1 i)
 

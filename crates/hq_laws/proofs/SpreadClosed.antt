@@ -22,10 +22,11 @@ use Rattle.hq_meaning.specs.Slices.{receives}
 use Rattle.hq_laws.specs.Stages.{filters, partial_op, final_op, tail_op, sending}
 use Rattle.hq_laws.specs.Spread.{Joining, Built, first_source, with_source, with_sources, spread_plan}
 use Rattle.hq_laws.specs.Room.{is_table, are_few, has_room, way_stands, is_joinable, are_joinable, kinds_sent, is_sendable}
-use Rattle.hq_laws.proofs.Lists.{AllOf, occurs, occurs-append}
+use Rattle.std.specs.List.{AllByRecursion}
+use Rattle.hq_laws.proofs.Lists.{occurs, occurs-append}
 use Rattle.hq_laws.proofs.Partners.{both_true}
 use Rattle.hq_laws.proofs.Regroup.{flat_map-append}
-use Rattle.hq_laws.proofs.Chains.{AllOf-append}
+use Rattle.hq_laws.proofs.Chains.{AllByRecursion-append}
 use Rattle.hq_laws.proofs.Stages.{filters-receives, partial-receives, final-receives, tail-receives}
 use Rattle.hq_laws.proofs.Typing.{Seen, seen-from, filters-kinds, final-kinds, tail-kinds}
 use Rattle.hq_laws.proofs.Fitness.{Pass, Ignores, through-partial, through-tail, filters-count, partial-count, final-count, tail-count, conds-fine, partial-fine, final-fine, tail-fine}
@@ -55,7 +56,7 @@ with_sources-kinds kinds b (j ∷ js) = with_sources-kinds kinds (with_source ki
 
 -- no join stands in what is built
 abbrev HasNoJoin : Built → Type 0
-HasNoJoin b = AllOf (λ (s : Slice). Pass (λ o. not (is_join o)) s.root) b.slices × Pass (λ o. not (is_join o)) b.root
+HasNoJoin b = AllByRecursion (λ (s : Slice). Pass (λ o. not (is_join o)) s.root) b.slices × Pass (λ o. not (is_join o)) b.root
 
 module _ (kinds : ℕ → List Kind) (q : Query) (out : List Kind) (fits : query_kinds kinds q ≡ Some out) (few : are_few q ≡ true) (groups : is_short q.groups ≡ true) (aggregates : is_short q.aggregates ≡ true) (order : is_short q.order ≡ true)
     (b : Built) (k : ℕ) (f : Formed kinds b k) (seven : k ≤ 7) (typed : b.kinds ≡ product_kinds kinds q) (sent : List Kind) (sends : kinds_sent kinds q ≡ Some sent) (some : is_sendable sent ≡ true)
@@ -124,8 +125,8 @@ module _ (kinds : ℕ → List Kind) (q : Query) (out : List Kind) (fits : query
   move : list_all motion_is_fine (front ++ l ∷ []) ≡ true
   move = list_all-append motion_is_fine front (l ∷ []) ∙ (λ i. (list_all-append motion_is_fine b.slices (m ∷ []) ∙ (λ j. f.move j && true)) i && true)
 
-  results : AllOf (λ (s : Slice). is_result s.out ≡ false) front
-  results = AllOf-append (λ (s : Slice). is_result s.out ≡ false) b.slices (m ∷ []) f.out (refl, tt)
+  results : AllByRecursion (λ (s : Slice). is_result s.out ≡ false) front
+  results = AllByRecursion-append (λ (s : Slice). is_result s.out ≡ false) b.slices (m ∷ []) f.out (refl, tt)
 
   -- each slice fits those before it
   middle-fits : fits_before b.slices m ≡ true
@@ -178,12 +179,12 @@ module _ (kinds : ℕ → List Kind) (q : Query) (out : List Kind) (fits : query
     where
       by : HasNoJoin b ⊎ (list_all stands_over_pairs q.aggregates ≡ true) → joins_without_counts (all_operators (front ++ l ∷ [])) ≡ true
       by (inl none) = ap (λ c. not c || list_all form.stands_over_pairs (all_operators (front ++ l ∷ []))) (none-any is_join (all_operators (front ++ l ∷ [])) (all-operators (λ o. not (is_join o)) (front ++ l ∷ [])
-          (AllOf-append (λ (s : Slice). Pass (λ o. not (is_join o)) s.root) front (l ∷ [])
-          (AllOf-append (λ (s : Slice). Pass (λ o. not (is_join o)) s.root) b.slices (m ∷ []) none.0 (through-partial (λ o. not (is_join o)) not-joins q b.root none.1, tt))
+          (AllByRecursion-append (λ (s : Slice). Pass (λ o. not (is_join o)) s.root) front (l ∷ [])
+          (AllByRecursion-append (λ (s : Slice). Pass (λ o. not (is_join o)) s.root) b.slices (m ∷ []) none.0 (through-partial (λ o. not (is_join o)) not-joins q b.root none.1, tt))
           (through-tail (λ o. not (is_join o)) not-joins q received_op refl, tt))))
       by (inr over) = ap (λ c. not (list_any is_join (all_operators (front ++ l ∷ []))) || c) (all-operators form.stands_over_pairs (front ++ l ∷ [])
-          (AllOf-append (λ (s : Slice). Pass form.stands_over_pairs s.root) front (l ∷ [])
-          (AllOf-append (λ (s : Slice). Pass form.stands_over_pairs s.root) b.slices (m ∷ []) f.pairs (pairs-middle q over b.root f.root_pairs, tt))
+          (AllByRecursion-append (λ (s : Slice). Pass form.stands_over_pairs s.root) front (l ∷ [])
+          (AllByRecursion-append (λ (s : Slice). Pass form.stands_over_pairs s.root) b.slices (m ∷ []) f.pairs (pairs-middle q over b.root f.root_pairs, tt))
           (pairs-tail q over received_op refl, tt)))
           ∙ or_true (not (list_any is_join (all_operators (front ++ l ∷ []))))
 

@@ -20,17 +20,18 @@ use Rattle.hq_meaning.specs.Slices.{receives}
 use Rattle.hq_laws.specs.Stages.{sending}
 use Rattle.hq_laws.specs.Spread.{Way, CopyRight, CopyLeft, MoveBoth, MoveLeft, Built, first_source, added_slices, left_side, right_side}
 use Rattle.hq_laws.specs.Room.{is_table, way_stands, is_sendable}
-use Rattle.hq_laws.proofs.Lists.{AllOf, occurs, occurs-append}
+use Rattle.std.specs.List.{AllByRecursion}
+use Rattle.hq_laws.proofs.Lists.{occurs, occurs-append}
 use Rattle.hq_laws.proofs.Partners.{both_true}
 use Rattle.hq_laws.proofs.Regroup.{flat_map-append}
-use Rattle.hq_laws.proofs.Chains.{AllOf-append}
+use Rattle.hq_laws.proofs.Chains.{AllByRecursion-append}
 use Rattle.hq_laws.proofs.Typing.{all_same_themselves}
 use Rattle.hq_laws.proofs.Fitness.{Pass}
 use Rattle.hq_laws.proofs.Shapes.{fit-append, any-received, all_received}
 
 -- no slice gathers
 abbrev NoneGather : List Slice → Type 0
-NoneGather slices = AllOf (λ (s : Slice). is_gather s.out ≡ false) slices
+NoneGather slices = AllByRecursion (λ (s : Slice). is_gather s.out ≡ false) slices
 
 no-gathers : (slices : List Slice) → NoneGather slices → (i : ℕ) → gathers slices i ≡ false
 no-gathers [] none i = refl
@@ -74,14 +75,14 @@ short n h = grind arith
 
 -- what is built is in form: k sources have been added
 pub record Formed (kinds : ℕ → List Kind) (b : Built) (k : ℕ) : Type 0 where
-  pub out : AllOf (λ (s : Slice). is_result s.out ≡ false) b.slices
+  pub out : AllByRecursion (λ (s : Slice). is_result s.out ≡ false) b.slices
   pub none : NoneGather b.slices
   pub fine : list_all slice_is_fine b.slices ≡ true
   pub move : list_all motion_is_fine b.slices ≡ true
   pub fits : fit_in_order [] b.slices ≡ true
   pub once : (i : ℕ) → occurs i (all_received b.slices) + occurs i (receives b.root) ≡ cond (nat_lt i (length b.slices)) 1 0
   pub size : length b.slices ≤ k + k
-  pub pairs : AllOf (λ (s : Slice). Pass form.stands_over_pairs s.root) b.slices
+  pub pairs : AllByRecursion (λ (s : Slice). Pass form.stands_over_pairs s.root) b.slices
   pub root_pairs : Pass form.stands_over_pairs b.root
   pub root_fine : Pass op_is_fine b.root
   pub root_count : length (operators b.root) ≤ 1 + (k + k)
@@ -143,11 +144,11 @@ module _ (kinds : ℕ → List Kind) (b : Built) (k : ℕ) (f : Formed kinds b k
       && ap (λ c. not c || list_all (only_gathers b.slices) (operators b.root)) (receives-none b.slices f.none b.root) i
 
   -- the slices with these behind them
-  out-more : (ss : List Slice) → AllOf (λ (s : Slice). is_result s.out ≡ false) ss → AllOf (λ (s : Slice). is_result s.out ≡ false) (b.slices ++ ss)
-  out-more ss h = AllOf-append (λ (s : Slice). is_result s.out ≡ false) b.slices ss f.out h
+  out-more : (ss : List Slice) → AllByRecursion (λ (s : Slice). is_result s.out ≡ false) ss → AllByRecursion (λ (s : Slice). is_result s.out ≡ false) (b.slices ++ ss)
+  out-more ss h = AllByRecursion-append (λ (s : Slice). is_result s.out ≡ false) b.slices ss f.out h
 
   none-more : (ss : List Slice) → NoneGather ss → NoneGather (b.slices ++ ss)
-  none-more ss h = AllOf-append (λ (s : Slice). is_gather s.out ≡ false) b.slices ss f.none h
+  none-more ss h = AllByRecursion-append (λ (s : Slice). is_gather s.out ≡ false) b.slices ss f.none h
 
   fine-more : (ss : List Slice) → list_all slice_is_fine ss ≡ true → list_all slice_is_fine (b.slices ++ ss) ≡ true
   fine-more ss h = list_all-append slice_is_fine b.slices ss ∙ (λ i. f.fine i && h i)
@@ -158,8 +159,8 @@ module _ (kinds : ℕ → List Kind) (b : Built) (k : ℕ) (f : Formed kinds b k
   fits-more : (ss : List Slice) → fit_in_order b.slices ss ≡ true → fit_in_order [] (b.slices ++ ss) ≡ true
   fits-more ss h = fit-append [] b.slices ss ∙ (λ i. f.fits i && h i)
 
-  pairs-more : (ss : List Slice) → AllOf (λ (s : Slice). Pass form.stands_over_pairs s.root) ss → AllOf (λ (s : Slice). Pass form.stands_over_pairs s.root) (b.slices ++ ss)
-  pairs-more ss h = AllOf-append (λ (s : Slice). Pass form.stands_over_pairs s.root) b.slices ss f.pairs h
+  pairs-more : (ss : List Slice) → AllByRecursion (λ (s : Slice). Pass form.stands_over_pairs s.root) ss → AllByRecursion (λ (s : Slice). Pass form.stands_over_pairs s.root) (b.slices ++ ss)
+  pairs-more ss h = AllByRecursion-append (λ (s : Slice). Pass form.stands_over_pairs s.root) b.slices ss f.pairs h
 
   received-more : (i : ℕ) (ss : List Slice) → occurs i (all_received (b.slices ++ ss)) ≡ occurs i (all_received b.slices) + occurs i (all_received ss)
   received-more i ss = ap (occurs i) (flat_map-append (λ (s : Slice). receives s.root) b.slices ss) ∙ occurs-append i (all_received b.slices) (all_received ss)

@@ -23,11 +23,12 @@ use Rattle.hq_meaning.proofs.MeanLaw.{mean-SameBag}
 use Rattle.hq_laws.specs.Words.{IsOwner}
 use Rattle.hq_laws.specs.Stages.{filters, partial_op, final_op, tail_op, sending}
 use Rattle.hq_laws.specs.Spread.{Joining, Built, first_source, with_source, with_sources, closed, spread_plan, KeysAreImplied, StandByKeys, FitKinds}
-use Rattle.hq_laws.proofs.Lists.{AllOf, AllOf-All}
+use Rattle.std.specs.List.{AllByRecursion}
+use Rattle.hq_laws.proofs.Lists.{AllByRecursion-All}
 use Rattle.hq_laws.proofs.OverNodes.{kept-over}
 use Rattle.hq_laws.proofs.Stages.{or_false, or_assoc, filters-rows, filters-faults, tail-receives, final-receives, tail-rows, tail-faults, faults-without_having, partials-fault, groups-bag, final-fault, both-steps}
 use Rattle.hq_laws.proofs.Runs.{eq_self, run-append, fault-append, answer-push, sent-at, on-all, gathered, gathered-SameBag}
-use Rattle.hq_laws.proofs.Chains.{IsWide, AllOf-flat_map, chained, kept-chained}
+use Rattle.hq_laws.proofs.Chains.{IsWide, AllByRecursion-flat_map, chained, kept-chained}
 use Rattle.hq_laws.proofs.Standing.{Standing, standing-first, standing-next, bag-now, clean-now}
 
 -- all sources
@@ -128,5 +129,5 @@ spread-plan-means kinds last q t js parts owner sources owned fit implied stand 
     ∙ ap (λ ss. kept q.conds (product (map (gathered parts owner) ss))) (sym sources))
     ∙ mean-SameBag q _ _ (gathered-SameBag parts owner owned)
   where
-    wide : (t : ℕ) → AllOf (IsWide (length (kinds t))) (gathered parts owner t)
-    wide t = AllOf-flat_map (IsWide (length (kinds t))) (λ n. own_rows parts owner n t) (λ n. AllOf-flat_map (IsWide (length (kinds t))) (parts t) (λ b. AllOf-All (IsWide (length (kinds t))) (parts t b) (fit t b)) _) (nodes_of owner)
+    wide : (t : ℕ) → AllByRecursion (IsWide (length (kinds t))) (gathered parts owner t)
+    wide t = AllByRecursion-flat_map (IsWide (length (kinds t))) (λ n. own_rows parts owner n t) (λ n. AllByRecursion-flat_map (IsWide (length (kinds t))) (parts t) (λ b. AllByRecursion-All (IsWide (length (kinds t))) (parts t b) (fit t b)) _) (nodes_of owner)

@@ -23,12 +23,13 @@ use Rattle.hq_meaning.proofs.Bags.{SameBag-refl, SameBag-sym, SameBag-trans, Sam
 use Rattle.hq_laws.specs.Words.{IsOwner}
 use Rattle.hq_laws.specs.Stages.{sending}
 use Rattle.hq_laws.specs.Spread.{Way, CopyRight, CopyLeft, MoveBoth, MoveLeft, Joining, Built, first_source, added_slices, left_side, right_side, with_source, StandsByKeys}
-use Rattle.hq_laws.proofs.Lists.{AllOf, AllOf-All}
+use Rattle.std.specs.List.{AllByRecursion}
+use Rattle.hq_laws.proofs.Lists.{AllByRecursion-All}
 use Rattle.hq_laws.proofs.Partners.{join-broadcast, join-copied}
 use Rattle.hq_laws.proofs.Owners.{joins-regrouped}
 use Rattle.hq_laws.proofs.Stages.{or_false, never}
 use Rattle.hq_laws.proofs.Runs.{run-append, fault-append, sent-at, sent-next, NoGather, on-all, gathered, gathered-SameBag}
-use Rattle.hq_laws.proofs.Chains.{AllOf-append}
+use Rattle.hq_laws.proofs.Chains.{AllByRecursion-append}
 
 -- joins of equal bags
 pub joined-SameBag : (lk rk : List ℕ) (xs ys us vs : List Row) → SameBag xs ys → SameBag us vs → SameBag (joined lk rk xs us) (joined lk rk ys vs)
@@ -38,7 +39,7 @@ joined-SameBag lk rk xs ys us vs same also = SameBag-trans _ (joined lk rk ys us
 
 -- a table that stands by its keys is on each node what a motion by these keys would bring there
 module _ (owner keys : List ℕ) (n : ℕ) where
-  at-home : (b : ℕ) (rows : List Row) → AllOf (λ row. bucket_of row keys ≡ b) rows → filter (λ row. home owner keys row == n) rows ≡ cond (slice_index owner b == n) rows []
+  at-home : (b : ℕ) (rows : List Row) → AllByRecursion (λ row. bucket_of row keys ≡ b) rows → filter (λ row. home owner keys row == n) rows ≡ cond (slice_index owner b == n) rows []
   at-home b [] all = by (slice_index owner b == n)
     where
       by : (c : Bool) → ◌≡◌ {A = List Row} [] (cond c [] [])
@@ -52,7 +53,7 @@ module _ (owner keys : List ℕ) (n : ℕ) where
       by true rest = ap (λ l. row ∷ l) rest
       by false rest = rest
 
-  own-at_home : (f : ℕ → List Row) → ((b : ℕ) → AllOf (λ row. bucket_of row keys ≡ b) (f b)) → (bs : List ℕ) → flat_map f (filter (λ b. slice_index owner b == n) bs) ≡ filter (λ row. home owner keys row == n) (flat_map f bs)
+  own-at_home : (f : ℕ → List Row) → ((b : ℕ) → AllByRecursion (λ row. bucket_of row keys ≡ b) (f b)) → (bs : List ℕ) → flat_map f (filter (λ b. slice_index owner b == n) bs) ≡ filter (λ row. home owner keys row == n) (flat_map f bs)
   own-at_home f stand [] = refl
   own-at_home f stand (b ∷ bs) =
       by (slice_index owner b == n)
@@ -119,7 +120,7 @@ module _ (kinds : ℕ → List Kind) (parts : Parts) (owner : List ℕ) where
     count-one slice sent = length-append b.slices (slice ∷ []) ∙ ap (λ n. n + 1) s.count ∙ sym (length-append s.sents (sent ∷ []))
 
     gather-one : (sent : Sent) → is_gather sent.out ≡ false → NoGather (s.sents ++ sent ∷ [])
-    gather-one sent e = AllOf-append (λ (s : Sent). is_gather s.out ≡ false) s.sents (sent ∷ []) s.no_gather (e, tt)
+    gather-one sent e = AllByRecursion-append (λ (s : Sent). is_gather s.out ≡ false) s.sents (sent ∷ []) s.no_gather (e, tt)
 
     fault-one : (sent : Sent) → sent.fault ≡ false → list_any (λ (s : Sent). s.fault) (s.sents ++ sent ∷ []) ≡ false
     fault-one sent e = fault-append s.sents (sent ∷ []) ∙ (λ i. s.no_fault i || (e i || false))
@@ -134,7 +135,7 @@ module _ (kinds : ℕ → List Kind) (parts : Parts) (owner : List ℕ) where
     count-two x y r t = length-append b.slices (x ∷ y ∷ []) ∙ ap (λ n. n + 2) s.count ∙ sym (length-append s.sents (r ∷ t ∷ []))
 
     gather-two : (r t : Sent) → is_gather r.out ≡ false → is_gather t.out ≡ false → NoGather (s.sents ++ r ∷ t ∷ [])
-    gather-two r t e f = AllOf-append (λ (s : Sent). is_gather s.out ≡ false) s.sents (r ∷ t ∷ []) s.no_gather (e, (f, tt))
+    gather-two r t e f = AllByRecursion-append (λ (s : Sent). is_gather s.out ≡ false) s.sents (r ∷ t ∷ []) s.no_gather (e, (f, tt))
 
     fault-two : (r t : Sent) → r.fault ≡ false → t.fault ≡ false → list_any (λ (s : Sent). s.fault) (s.sents ++ r ∷ t ∷ []) ≡ false
     fault-two r t e f = fault-append s.sents (r ∷ t ∷ []) ∙ (λ i. s.no_fault i || (e i || (f i || false)))
@@ -223,7 +224,7 @@ module _ (kinds : ℕ → List Kind) (parts : Parts) (owner : List ℕ) where
         unfolding hidden-the_row-Op-0 hidden
         move-left-bag stand more = SameBag-trans _ _ _
             (SameBag-equal _ _ (λ i. flat_map (λ n. joined lk rk (arrives (left_sent (motion.Redistribute lk)) more n i)
-            (own-at_home owner rk n (parts t) (λ b. AllOf-All (λ row. bucket_of row rk ≡ b) (parts t b) (stand b)) (range_with_len 0 (length owner)) i)) (nodes_of owner)))
+            (own-at_home owner rk n (parts t) (λ b. AllByRecursion-All (λ row. bucket_of row rk ≡ b) (parts t b) (stand b)) (range_with_len 0 (length owner)) i)) (nodes_of owner)))
             (SameBag-trans _ _ _ (joins-regrouped owner lk rk (left_sent (motion.Redistribute lk)).rows (all_rows parts owner t) owned)
             (joined-SameBag lk rk _ _ _ _ (left-rows (motion.Redistribute lk)) (SameBag-sym _ _ (gathered-SameBag parts owner owned t))))
 
