@@ -88,6 +88,10 @@ not_one-of_four : mean not_one four ≡ Rows ((int 30 ∷ []) ∷ [])
 unfolding not_one four int hidden-the_row-Expr-0 hidden
 not_one-of_four = refl
 
+not_one-of_four-not_unknown : mean not_one four ≢ Rows ((int 20 ∷ []) ∷ (int 30 ∷ []) ∷ (int 40 ∷ []) ∷ [])
+unfolding not_one four int hidden-the_row-Expr-0 hidden
+not_one-of_four-not_unknown e = cc
+
 -- SELECT a, SUM(b) FROM t GROUP BY a
 by_a : Query
 unfolding hidden-the_row-Expr-0 hidden
@@ -198,6 +202,10 @@ next_below-most : mean next_below most ≡ Rows []
 unfolding next_below next most int hidden-the_row-Expr-0 hidden
 next_below-most = refl
 
+next_below-most-no_fault : mean next_below most ≢ Numeric
+unfolding next_below next most int hidden-the_row-Expr-0 hidden
+next_below-most-no_fault e = cc
+
 -- SELECT SUM(a) FROM t HAVING SUM(a) < 0
 great_sums : Query
 unfolding int hidden-the_row-Expr-0 hidden
@@ -240,6 +248,10 @@ great_sums-and_back : mean great_sums and_back ≡ Rows []
 unfolding great_sums and_back int hidden-the_row-Expr-0 hidden
 great_sums-and_back = refl
 
+great_sums-and_back-no_fault : mean great_sums and_back ≢ Numeric
+unfolding great_sums and_back int hidden-the_row-Expr-0 hidden
+great_sums-and_back-no_fault e = cc
+
 -- u (id, g) and v (k, g)
 uv : ℕ → List Row
 uv zero = (int 1 ∷ int 10 ∷ []) ∷ (int 2 ∷ int 20 ∷ []) ∷ (int 3 ∷ int 10 ∷ []) ∷ []
@@ -275,6 +287,10 @@ met = record {
 met-of_uv : mean met uv ≡ Rows ((int 1 ∷ int 7 ∷ []) ∷ (int 1 ∷ int 9 ∷ []) ∷ (int 2 ∷ int 8 ∷ []) ∷ (int 3 ∷ int 7 ∷ []) ∷ (int 3 ∷ int 9 ∷ []) ∷ [])
 unfolding met uv int hidden-the_row-Expr-0 hidden
 met-of_uv = refl
+
+met-of_uv-not_by_id : mean met uv ≢ Rows []
+unfolding met uv int hidden-the_row-Expr-0 hidden
+met-of_uv-not_by_id e = cc
 
 text : ℕ → Value
 text n = value.Text (n ∷ [])
@@ -356,6 +372,10 @@ each_once-of_flags : mean each_once flags ≡ Rows ((value.Bool false ∷ []) �
 unfolding each_once flags hidden-the_row-Expr-0 hidden
 each_once-of_flags = refl
 
+each_once-of_flags-not_twice : mean each_once flags ≢ Rows ((value.Bool false ∷ []) ∷ (value.Bool true ∷ []) ∷ (value.Null ∷ []) ∷ (value.Null ∷ []) ∷ [])
+unfolding each_once flags hidden-the_row-Expr-0 hidden
+each_once-of_flags-not_twice e = cc
+
 -- SELECT * FROM t
 star : Query
 unfolding hidden-the_row-Expr-0 hidden
@@ -390,3 +410,7 @@ marks t = (value.Text (97 ∷ 124 ∷ 92 ∷ 10 ∷ 98 ∷ []) ∷ []) ∷ []
 star-of_marks : mean star marks ≡ Rows (((value.Text (97 ∷ 124 ∷ 92 ∷ 10 ∷ 98 ∷ [])) ∷ []) ∷ [])
 unfolding star marks hidden-the_row-Expr-0 hidden
 star-of_marks = refl
+
+star-of_marks-not_escaped : mean star marks ≢ Rows (((value.Text (97 ∷ 92 ∷ 124 ∷ 92 ∷ 92 ∷ 92 ∷ 110 ∷ 98 ∷ [])) ∷ []) ∷ [])
+unfolding star marks hidden-the_row-Expr-0 hidden
+star-of_marks-not_escaped e = cc

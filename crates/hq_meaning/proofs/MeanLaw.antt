@@ -24,18 +24,18 @@ use Rattle.hq_meaning.proofs.Bags.{respects, any-SameBag, SameBag-refl, SameBag-
 use Rattle.hq_meaning.proofs.Together.{together-swap}
 
 -- the order of ORDER BY, ties by row order
-key_total : (key : SortKey) → IsTotalOrder (key_cmp key)
+pub key_total : (key : SortKey) → IsTotalOrder (key_cmp key)
 key_total key = by key.descending
   where
     by : (b : Bool) → IsTotalOrder (cond b (flip_args (on (λ (row : Row). column row key.column) value_cmp)) (on (λ (row : Row). column row key.column) value_cmp))
     by true = back_total (on_total (λ (row : Row). column row key.column) value_total)
     by false = on_total (λ (row : Row). column row key.column) value_total
 
-order_total : (order : List SortKey) → IsTotalOrder (order_cmp order)
+pub order_total : (order : List SortKey) → IsTotalOrder (order_cmp order)
 order_total [] = row_total
 order_total (key ∷ keys) = then_total (key_total key) (order_total keys)
 
-order_exact : (order : List SortKey) → CmpEqualImpliesEq (order_cmp order)
+pub order_exact : (order : List SortKey) → CmpEqualImpliesEq (order_cmp order)
 order_exact [] a b h = row_exact a b h
 order_exact (key ∷ keys) a b h = order_exact keys a b (by (key_cmp key a b) (order_cmp keys a b) h)
   where
