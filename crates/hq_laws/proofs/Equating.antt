@@ -64,12 +64,12 @@ and-true (Is a) (Is b) h = by a b h
     by value.Null (value.Text s) h = cc
     by value.Null value.Null h = cc
 
-eq_means : (m n : ℕ) → (m == n) ≡ true → m ≡ n
+pub eq_means : (m n : ℕ) → (m == n) ≡ true → m ≡ n
 eq_means m n h = grind arith
 
-or_true : (a b : Bool) → (a || b) ≡ true → (a ≡ true) ⊎ (b ≡ true)
-or_true true b h = inl refl
-or_true false b h = inr h
+pub either_true : (a b : Bool) → (a || b) ≡ true → (a ≡ true) ⊎ (b ≡ true)
+either_true true b h = inl refl
+either_true false b h = inr h
 
 place-column : (i : ℕ) (row : Row) (e : Expr) → is_place i e ≡ true → eval e row ≡ Is (column row i)
 place-column i row (expr.Column place) h = ap (λ p. Is (column row p)) (eq_means place i h)
@@ -85,14 +85,14 @@ place_in-column : {m : _} (i : ℕ) (row : Row) (of : Row_of-Expr m) → place_i
 place_in-column i row end_of-Expr h = cc
 place_in-column i row (more_of-Expr e rest) h = place-column i row e h
 
-by_either : {A B C : Type 0} → A ⊎ B → (A → C) → (B → C) → C
+pub by_either : {A B C : Type 0} → A ⊎ B → (A → C) → (B → C) → C
 by_either (inl a) f g = f a
 by_either (inr b) f g = g b
 
 module _ (i j : ℕ) (row : Row) where
   sides : {m n : _} (left : Row_of-Expr m) (right : Row_of-Expr n) → ((place_in i left && place_in j right) || (place_in j left && place_in i right)) ≡ true
       → ((only left row ≡ Is (column row i)) × (only right row ≡ Is (column row j))) ⊎ ((only left row ≡ Is (column row j)) × (only right row ≡ Is (column row i)))
-  sides left right h = by_either (or_true (place_in i left && place_in j right) (place_in j left && place_in i right) h)
+  sides left right h = by_either (either_true (place_in i left && place_in j right) (place_in j left && place_in i right) h)
       (λ e. let b : (place_in i left ≡ true) × (place_in j right ≡ true) = both_true (place_in i left) (place_in j right) e in inl (place_in-column i row left b.0, place_in-column j row right b.1))
       (λ e. let b : (place_in j left ≡ true) × (place_in i right ≡ true) = both_true (place_in j left) (place_in i right) e in inr (place_in-column j row left b.0, place_in-column i row right b.1))
 
@@ -116,7 +116,7 @@ module _ (i j : ℕ) (row : Row) where
         compared kind (only left row) (only right row) b.0 h (sides left right b.1)
     equates-meets (expr.And' p left q right) g h =
         let b : (is_true (or_null (only left row)) ≡ true) × (is_true (or_null (only right row)) ≡ true) = and-true (only left row) (only right row) h in
-        by_either (or_true (equates_in i j left) (equates_in i j right) g) (λ e. equates_in-meets left e b.0) (λ e. equates_in-meets right e b.1)
+        by_either (either_true (equates_in i j left) (equates_in i j right) g) (λ e. equates_in-meets left e b.0) (λ e. equates_in-meets right e b.1)
     equates-meets (expr.Or' p left q right) g h = cc
     equates-meets (expr.Not' p of) g h = cc
     equates-meets (expr.IsNull' p of) g h = cc
@@ -129,7 +129,7 @@ module _ (i j : ℕ) (row : Row) where
   any-meets [] g h = cc
   any-meets (e ∷ conds) g h =
       let b : (is_true_at e row ≡ true) × (list_all (λ e. is_true_at e row) conds ≡ true) = both_true (is_true_at e row) _ h in
-      by_either (or_true (equates i j e) (list_any (equates i j) conds) g) (λ k. equates-meets e k b.0) (λ k. any-meets conds k b.1)
+      by_either (either_true (equates i j e) (list_any (equates i j) conds) g) (λ k. equates-meets e k b.0) (λ k. any-meets conds k b.1)
 
 -- columns of a row that is made of others
 column-left : (l rest : Row) (i : ℕ) → i < length l → column (l ++ rest) i ≡ column l i
@@ -147,7 +147,7 @@ column-right (x ∷ l) rest j = ap (column (x ∷ l ++ rest)) (suc_add (length l
     suc_add : (n j : ℕ) → suc n + j ≡ suc (n + j)
     suc_add n j = omega arith
 
-below : (m n : ℕ) → nat_lt m n ≡ true → m < n
+pub below : (m n : ℕ) → nat_lt m n ≡ true → m < n
 below m n h = grind arith
 
 pub keys-equated : (w v : ℕ) (conds : List Expr) (lk rk : List ℕ) → keys_equated w v conds lk rk ≡ true → AreImplied w v conds lk rk

@@ -1,4 +1,6 @@
 pub mod Chains
+pub mod EquatedJoins
+pub mod EquatedKinds
 pub mod Equating
 pub mod Examples
 pub mod Finals

@@ -1,12 +1,17 @@
 -- Conditions that say that columns are equal.
 --     equates i j e                   where it is true, the columns i and j are equal and not NULL
 --     keys_equated w v conds lk rk    some condition equates each left key with its right key
-use Rattle.std.specs.Prelude.{ℕ, ◌+◌, Bool, true, false, ◌&&◌, ◌||◌, ◌==◌, nat_lt, List, [], ◌∷◌}
+--     are_equated kinds conds w js    so it is with the keys of each join
+use Rattle.std.specs.Prelude.{ℕ, ◌+◌, Bool, true, false, not, ◌&&◌, ◌||◌, ◌==◌, nat_lt, List, [], ◌∷◌, length}
 use Rattle.std.specs.List.{list_any}
+use Rattle.hq_value.specs.declared.table.Kind.{Kind}
 use Rattle.hq_algebra.specs.declared.expr.CompareKind.{CompareKind}
 use Rattle.hq_algebra.specs.declared.expr.CompareKind.TheVariants as compare
 use Rattle.hq_algebra.specs.declared.expr.Expr.{Expr, Row_of-Expr, end_of-Expr, more_of-Expr}
 use Rattle.hq_algebra.specs.declared.expr.Expr.TheVariants as expr
+use Rattle.hq_algebra.specs.Rules.{is_empty}
+use Rattle.hq_algebra.specs.Plans.{is_short}
+use Rattle.hq_laws.specs.Spread.{Way, MoveBoth, MoveLeft, Joining}
 
 -- it is the column at this place
 abbrev pub is_place : ℕ → Expr → Bool
@@ -44,3 +49,19 @@ abbrev pub keys_equated : ℕ → ℕ → List Expr → List ℕ → List ℕ �
 keys_equated w v conds [] [] = true
 keys_equated w v conds (i ∷ is) (j ∷ js) = (nat_lt i w && (nat_lt j v && list_any (equates i (w + j)) conds)) && keys_equated w v conds is js
 keys_equated w v conds _ _ = false
+
+-- the rows before it go to the nodes of their keys
+abbrev pub moves_left : Way → Bool
+moves_left MoveBoth = true
+moves_left MoveLeft = true
+moves_left _ = false
+
+-- conditions equate the keys of a join; they are few, and there is one where rows go by them. The rows before it have
+-- w columns
+abbrev pub is_equated : (ℕ → List Kind) → List Expr → ℕ → Joining → Bool
+is_equated kinds conds w j = keys_equated w (length (kinds j.table)) conds j.left_keys j.right_keys && (is_short j.left_keys && (not (moves_left j.way) || not (is_empty j.left_keys)))
+
+-- so it is with each join
+abbrev pub are_equated : (ℕ → List Kind) → List Expr → ℕ → List Joining → Bool
+are_equated kinds conds w [] = true
+are_equated kinds conds w (j ∷ js) = is_equated kinds conds w j && are_equated kinds conds (w + length (kinds j.table)) js

@@ -1,6 +1,7 @@
 //! The laws of whole plans.
 ghost use Rattle.std.specs.Prelude.{◌≡◌, ℕ, List, ◌∷◌, map, length, IsTrue, Some, is_some};
 ghost use Rattle.hq_value.specs.declared.table.Kind.{Kind};
+ghost use Rattle.hq_algebra.specs.declared.expr.Expr.{Expr};
 ghost use Rattle.hq_algebra.specs.declared.query.Query.{Query};
 ghost use Rattle.hq_algebra.specs.Queries.{query_kinds};
 ghost use Rattle.hq_algebra.specs.Plans.{is_well_formed};
@@ -8,6 +9,7 @@ ghost use Rattle.hq_meaning.specs.Mean.{mean};
 ghost use Rattle.hq_meaning.specs.Plans.{Parts, plan_mean, all_rows};
 ghost use Rattle.hq_laws.specs.Words.{IsOwner};
 ghost use Rattle.hq_laws.specs.Gathered.{gathered_plan};
+ghost use Rattle.hq_laws.specs.Equated.{are_equated};
 ghost use Rattle.hq_laws.specs.Room.{has_room, are_joinable, kinds_sent, is_sendable};
 ghost use Rattle.hq_laws.specs.Spread.{Joining, spread_plan, FitKinds, KeysAreImplied, StandByKeys};
 
@@ -32,4 +34,10 @@ pub fn joining_on_nodes_keeps_meaning()
 /// columns.
 pub fn joining_plans_are_well_formed()
     ensures { (kinds : ℕ → List Kind) (sent : List Kind) (q : Query) (t : ℕ) (js : List Joining) → q.sources ≡ t ∷ map (λ (j : Joining). j.table) js → IsTrue (is_some (query_kinds kinds q)) → IsTrue (has_room kinds q) → kinds_sent kinds q ≡ Some sent → IsTrue (is_sendable sent) → IsTrue (are_joinable kinds (kinds t) js) → IsTrue (is_well_formed (spread_plan kinds sent q t js)) }
+{}
+
+/// Where a condition compares each left key of a join with its right key, the two laws before this may be used.
+pub fn equated_joins_stand()
+    ensures implied { (kinds : ℕ → List Kind) (conds : List Expr) (w : ℕ) (js : List Joining) → IsTrue (are_equated kinds conds w js) → KeysAreImplied kinds conds w js }
+    ensures joinable { (kinds : ℕ → List Kind) (q : Query) (t : ℕ) (js : List Joining) → q.sources ≡ t ∷ map (λ (j : Joining). j.table) js → IsTrue (is_some (query_kinds kinds q)) → IsTrue (are_equated kinds q.conds (length (kinds t)) js) → IsTrue (are_joinable kinds (kinds t) js) }
 {}
