@@ -16,6 +16,7 @@ pub mod Partners
 pub mod Products
 pub mod Regroup
 pub mod Runs
+pub mod Scanning
 pub mod Shapes
 pub mod SpreadClosed
 pub mod SpreadForm

@@ -1,6 +1,7 @@
 pub mod Equated
 pub mod Gathered
 pub mod Room
+pub mod Scanned
 pub mod Spread
 pub mod Stages
 pub mod Words

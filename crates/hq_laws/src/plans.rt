@@ -11,6 +11,7 @@ ghost use Rattle.hq_laws.specs.Words.{IsOwner};
 ghost use Rattle.hq_laws.specs.Gathered.{gathered_plan};
 ghost use Rattle.hq_laws.specs.Equated.{are_equated};
 ghost use Rattle.hq_laws.specs.Room.{has_room, are_joinable, kinds_sent, is_sendable};
+ghost use Rattle.hq_laws.specs.Scanned.{AreScanned};
 ghost use Rattle.hq_laws.specs.Spread.{Joining, spread_plan, FitKinds, KeysAreImplied, StandByKeys};
 
 /// The plan that gathers each source by itself and does the rest in the last slice means what its query means.
@@ -40,4 +41,10 @@ pub fn joining_plans_are_well_formed()
 pub fn equated_joins_stand()
     ensures implied { (kinds : ℕ → List Kind) (conds : List Expr) (w : ℕ) (js : List Joining) → IsTrue (are_equated kinds conds w js) → KeysAreImplied kinds conds w js }
     ensures joinable { (kinds : ℕ → List Kind) (q : Query) (t : ℕ) (js : List Joining) → q.sources ≡ t ∷ map (λ (j : Joining). j.table) js → IsTrue (is_some (query_kinds kinds q)) → IsTrue (are_equated kinds q.conds (length (kinds t)) js) → IsTrue (are_joinable kinds (kinds t) js) }
+{}
+
+/// In both plans each source of the query stands in a Scan.
+pub fn sources_stand_in_scans()
+    ensures gathered { (kinds : ℕ → List Kind) (q : Query) → AreScanned (gathered_plan kinds q).slices q.sources }
+    ensures joined { (kinds : ℕ → List Kind) (sent : List Kind) (q : Query) (t : ℕ) (js : List Joining) → q.sources ≡ t ∷ map (λ (j : Joining). j.table) js → AreScanned (spread_plan kinds sent q t js).slices q.sources }
 {}
