@@ -11,10 +11,10 @@ use Rattle.hq_algebra.specs.Plans.{is_short}
 use Rattle.hq_laws.specs.Spread.{Way, CopyRight, CopyLeft, MoveBoth, MoveLeft, Joining, KeysAreImplied}
 use Rattle.hq_laws.specs.Equated.{equates, keys_equated, moves_left, is_equated, are_equated}
 use Rattle.hq_laws.specs.Room.{way_stands, are_joinable}
-use Rattle.hq_laws.proofs.Partners.{both_true}
 use Rattle.hq_laws.proofs.Typing.{Seen, seen-from}
 use Rattle.hq_laws.proofs.Equating.{keys-equated}
 use Rattle.hq_laws.proofs.EquatedKinds.{keys-joinable}
+use Rattle.hq_laws.proofs.Lists.{both_true}
 
 module _ (w v : ℕ) (conds : List Expr) where
   as-many : (lk rk : List ℕ) → keys_equated w v conds lk rk ≡ true → length rk ≡ length lk

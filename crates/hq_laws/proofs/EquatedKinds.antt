@@ -9,8 +9,8 @@ use Rattle.hq_algebra.specs.Kinds.{◌>>=◌, same_kind, same_kinds, is_of, are_
 use Rattle.hq_algebra.specs.Operators.{keys_kinds, join_kinds}
 use Rattle.hq_algebra.specs.Queries.{are_conditions}
 use Rattle.hq_laws.specs.Equated.{is_place, place_in, is_equal, equates, equates_in, keys_equated}
-use Rattle.hq_laws.proofs.Partners.{both_true}
-use Rattle.hq_laws.proofs.Equating.{eq_means, either_true, by_either, below}
+use Rattle.hq_laws.proofs.Equating.{either_true, by_either, below}
+use Rattle.hq_laws.proofs.Lists.{eq_means, both_true}
 
 if-bool : (b : Bool) → is_of kind.Bool (kind_if b kind.Bool) ≡ true → b ≡ true
 if-bool true h = refl

@@ -1,5 +1,5 @@
 -- Conditions that equate the keys imply that they match.
-use Rattle.std.proofs.Common.{◌≡◌, ℕ, zero, suc, ◌+◌, ◌<◌, ◌==◌, nat_lt, Bool, true, false, ◌&&◌, ◌||◌, ◌⊎◌, inl, inr, List, [], ◌∷◌, ◌++◌, length, refl, sym, ◌∙◌, ap, subst, arith}
+use Rattle.std.proofs.Common.{◌≡◌, ℕ, zero, suc, ◌+◌, ◌<◌, nat_lt, Bool, true, false, ◌&&◌, ◌||◌, ◌⊎◌, inl, inr, List, [], ◌∷◌, ◌++◌, length, refl, sym, ◌∙◌, ap, subst, arith}
 use Rattle.std.specs.List.{list_any, list_all}
 use Rattle.hq_value.specs.declared.value.Value.{Value}
 use Rattle.hq_value.specs.declared.value.Value.TheVariants as value
@@ -14,7 +14,8 @@ use Rattle.hq_meaning.specs.Rows.{Row}
 use Rattle.hq_meaning.specs.Operators.{meets}
 use Rattle.hq_laws.specs.Spread.{AreImplied}
 use Rattle.hq_laws.specs.Equated.{is_place, place_in, is_equal, equates, equates_in, keys_equated}
-use Rattle.hq_laws.proofs.Partners.{meets-equal, both_true}
+use Rattle.hq_laws.proofs.Partners.{meets-equal}
+use Rattle.hq_laws.proofs.Lists.{eq_means, both_true}
 
 -- a comparison that is true
 equal-meets : (a b : Value) → is_true (compare_of compare.Equal a b) ≡ true → meets a b ≡ true
@@ -63,9 +64,6 @@ and-true (Is a) (Is b) h = by a b h
     by value.Null (value.Int m) h = cc
     by value.Null (value.Text s) h = cc
     by value.Null value.Null h = cc
-
-pub eq_means : (m n : ℕ) → (m == n) ≡ true → m ≡ n
-eq_means m n h = grind arith
 
 pub either_true : (a b : Bool) → (a || b) ≡ true → (a ≡ true) ⊎ (b ≡ true)
 either_true true b h = inl refl

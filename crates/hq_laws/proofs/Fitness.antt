@@ -17,7 +17,7 @@ use Rattle.hq_algebra.specs.Plans.{operators, is_short, op_is_fine}
 use Rattle.hq_meaning.specs.Operators.{width}
 use Rattle.hq_laws.specs.Stages.{filters, partial_op, final_aggregate, final_aggregates, final_op, distinct_op, tail_op}
 use Rattle.std.specs.List.{AllByRecursion}
-use Rattle.hq_laws.proofs.Partners.{both_true}
+use Rattle.hq_laws.proofs.Lists.{both_true}
 
 -- A test that each operator of a stage passes, and those below it.
 abbrev pub PassFilters : (Op → Bool) → List Expr → Type 0

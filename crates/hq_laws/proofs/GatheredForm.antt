@@ -26,15 +26,14 @@ use Rattle.hq_laws.specs.Stages.{filters, partial_op, final_aggregate, final_agg
 use Rattle.hq_laws.specs.Gathered.{product_from, product_op, rest_op, scan_slice, gathered_plan}
 use Rattle.hq_laws.specs.Room.{is_table, are_few, has_room}
 use Rattle.std.specs.List.{AllByRecursion}
-use Rattle.hq_laws.proofs.Lists.{occurs}
-use Rattle.hq_laws.proofs.Partners.{both_true}
+use Rattle.hq_laws.proofs.Lists.{occurs, or_true, both_true}
 use Rattle.hq_laws.proofs.Owners.{once-from}
 use Rattle.hq_laws.proofs.Regroup.{flat_map-append}
 use Rattle.hq_laws.proofs.Chains.{AllByRecursion-append}
 use Rattle.hq_laws.proofs.Gathering.{rest-receives}
 use Rattle.hq_laws.proofs.Typing.{Seen, seen-from, all_same_themselves, filters-kinds, final-kinds, tail-kinds}
 use Rattle.hq_laws.proofs.Fitness.{Pass, every-filter, Ignores, through-partial, through-tail, filters-pass, partial-pass, final-pass, tail-pass, filters-count, partial-count, final-count, tail-count, conds-fine, partial-fine, final-fine, tail-fine}
-use Rattle.hq_laws.proofs.Shapes.{or_true, result-push, fit-append, gather-push, any-received, all_received, received-once, all-operators, none-any, alone}
+use Rattle.hq_laws.proofs.Shapes.{result-push, fit-append, gather-push, any-received, all_received, received-once, all-operators, none-any, alone}
 
 -- A test that the operators of the product pass: it holds of each Receive of a source, and of a join without keys.
 module _ (kinds : ℕ → List Kind) (all : List ℕ) (P : Op → Bool) (own : (done : List ℕ) (t : ℕ) (rest : List ℕ) → all ≡ done ++ t ∷ rest → P (op.Receive (length done) (kinds t)) ≡ true) (join : (x y : Op) → P (op.Join [] [] x y) ≡ true) where

@@ -25,8 +25,9 @@ use Rattle.hq_laws.specs.Stages.{filters, partial_op, final_op, sending}
 use Rattle.hq_laws.specs.Gathered.{product_from, product_op, rest_op, scan_slice, gathered_plan}
 use Rattle.hq_laws.proofs.Products.{pairs-one, pairs-assoc, join-pairs}
 use Rattle.hq_laws.proofs.Regroup.{flat_map-append}
-use Rattle.hq_laws.proofs.Stages.{or_false, never, filters-rows, filters-faults, filters-receives, tail-receives, final-receives, partial-receives, tail-rows, tail-faults, faults-without_having, partials-fault, groups-bag, final-fault, both-steps}
-use Rattle.hq_laws.proofs.Runs.{eq_self, run-append, answer-push, gathered, gathered-SameBag}
+use Rattle.hq_laws.proofs.Stages.{never, filters-rows, filters-faults, filters-receives, tail-receives, final-receives, partial-receives, tail-rows, tail-faults, faults-without_having, partials-fault, groups-bag, final-fault, both-steps}
+use Rattle.hq_laws.proofs.Runs.{run-append, answer-push, gathered, gathered-SameBag}
+use Rattle.hq_laws.proofs.Lists.{eq_self, or_false, any-left}
 
 -- The sources.
 module _ (kinds : ℕ → List Kind) (g : ℕ → List Row) (here : Here) where
@@ -50,14 +51,6 @@ module _ (kinds : ℕ → List Kind) (g : ℕ → List Row) (here : Here) where
 
   sources-rows : (t : ℕ) (ts : List ℕ) → Arrives 0 (t ∷ ts) → rows_of (product_op kinds (t ∷ ts)) here ≡ product (map g (t ∷ ts))
   sources-rows t ts come = join-rows (op.Receive 0 (kinds t)) 1 ts come.1 ∙ ap (λ l. pairs l (product (map g ts))) come.0
-
-any-left : (p : ℕ → Bool) (xs ys : List ℕ) → list_any p xs ≡ true → list_any p (xs ++ ys) ≡ true
-any-left p [] ys h = cc
-any-left p (x ∷ xs) ys h = by (p x) h (any-left p xs ys)
-  where
-    by : (b : Bool) → (b || list_any p xs) ≡ true → (list_any p xs ≡ true → list_any p (xs ++ ys) ≡ true) → (b || list_any p (xs ++ ys)) ≡ true
-    by true e rest = refl
-    by false e rest = rest e
 
 join-receives : (kinds : ℕ → List Kind) (p : ℕ → Bool) (before : Op) (i : ℕ) (ts : List ℕ) → list_any p (receives before) ≡ true → list_any p (receives (product_from kinds before i ts)) ≡ true
 unfolding hidden-the_row-Op-0 hidden

@@ -12,18 +12,12 @@ use Rattle.hq_meaning.specs.Operators.{joined, partial, final, final_faults}
 use Rattle.hq_meaning.specs.Nodes.{nodes_of, home}
 use Rattle.hq_laws.specs.Words.{IsOwner}
 use Rattle.std.specs.List.{AllByRecursion}
-use Rattle.hq_laws.proofs.Lists.{occurs}
+use Rattle.hq_laws.proofs.Lists.{occurs, eq_self, eq_means}
 use Rattle.hq_meaning.proofs.Bags.{any-SameBag, SameBag-trans, SameBag-sym}
 use Rattle.hq_laws.proofs.Partners.{join-regrouped, matches-home}
 use Rattle.hq_meaning.proofs.MeanLaw.{grouped-SameBag, some_leaves_64-SameBag}
 use Rattle.hq_laws.proofs.Merge.{any-append, final-parts, final-parts-faults}
 use Rattle.std.proofs.lemmas.List.{append-nil}
-
-eq_self : (n : ℕ) → (n == n) ≡ true
-eq_self n = grind arith
-
-pub eq_means : (m n : ℕ) → (m == n) ≡ true → m ≡ n
-eq_means m n h = grind arith
 
 pub none-from : (m a n : ℕ) → m < a → occurs m (range_with_len a n) ≡ 0
 none-from m a zero h = refl

@@ -28,7 +28,7 @@ pairs-assoc xs ys zs =
     ∙ (λ j. flat_map (λ y. ((λ k. map (λ r. append_assoc x y r k) zs) ∙ sym (map-map (λ r. x ++ r) (λ r. y ++ r) zs)) j) ys)
     ∙ sym (map-flat_map (λ r. x ++ r) (λ y. map (λ r. y ++ r) zs) ys)) i) xs)
 
-filter-all : (xs : List Row) → filter (λ r. true) xs ≡ xs
+pub filter-all : (xs : List Row) → filter (λ r. true) xs ≡ xs
 filter-all [] = refl
 filter-all (x ∷ xs) = ap (λ l. x ∷ l) (filter-all xs)
 

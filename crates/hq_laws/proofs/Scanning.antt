@@ -1,37 +1,21 @@
 -- Each source of a query stands in a Scan of its plan.
-use Rattle.std.proofs.Common.{◌≡◌, ℕ, zero, suc, ◌<◌, ◌==◌, Bool, true, false, cond, ◌||◌, ◌⊎◌, inl, inr, List, [], ◌∷◌, ◌++◌, length, map, append_assoc, refl, sym, ◌∙◌, ap, subst, arith, IsTrue}
+use Rattle.std.proofs.Common.{◌≡◌, ℕ, zero, suc, ◌==◌, Bool, true, false, cond, ◌⊎◌, inl, inr, List, [], ◌∷◌, ◌++◌, length, map, append_assoc, refl, sym, ◌∙◌, ap, subst, arith, IsTrue}
 use Rattle.std.specs.List.{list_any, All, AllByRecursion}
-use Rattle.std.proofs.lemmas.List.Folds.{list_any-append}
 use Rattle.hq_value.specs.declared.table.Kind.{Kind}
 use Rattle.hq_algebra.specs.declared.expr.Expr.{Expr}
 use Rattle.hq_algebra.specs.declared.op.Op.{Op}
 use Rattle.hq_algebra.specs.declared.op.Op.TheVariants as op
 use Rattle.hq_algebra.specs.declared.op.Op.TheBlock.{hidden-the_row-Op-0}
-use Rattle.hq_algebra.specs.declared.plan.Motion.{Motion}
 use Rattle.hq_algebra.specs.declared.plan.Motion.TheVariants as motion
 use Rattle.hq_algebra.specs.declared.plan.Slice.{Slice}
 use Rattle.hq_algebra.specs.declared.query.Query.{Query}
 use denote.Hole.Carrier.{hidden}
 use Rattle.hq_algebra.specs.Plans.{operators}
-use Rattle.hq_laws.specs.Stages.{filters, partial_op, final_op, tail_op, sending}
+use Rattle.hq_laws.specs.Stages.{filters, partial_op, sending}
 use Rattle.hq_laws.specs.Gathered.{product_op, rest_op, scan_slice, gathered_plan}
 use Rattle.hq_laws.specs.Spread.{Way, CopyRight, CopyLeft, MoveBoth, MoveLeft, Joining, Built, first_source, added_slices, left_side, right_side, with_source, with_sources, closed, spread_plan}
 use Rattle.hq_laws.specs.Scanned.{scans, is_scanned, AreScanned}
-use Rattle.hq_laws.proofs.Runs.{eq_self}
-use Rattle.hq_laws.proofs.Shapes.{or_true}
-use Rattle.hq_laws.proofs.Equating.{either_true, by_either}
-
-or_left : (a b : Bool) → a ≡ true → (a || b) ≡ true
-or_left a b h = ap (λ c. c || b) h
-
-or_right : (a b : Bool) → b ≡ true → (a || b) ≡ true
-or_right a b h = ap (λ c. a || c) h ∙ or_true a
-
-any-left : {A : Type 0} (p : A → Bool) (xs ys : List A) → list_any p xs ≡ true → list_any p (xs ++ ys) ≡ true
-any-left p xs ys h = list_any-append p xs ys ∙ or_left (list_any p xs) (list_any p ys) h
-
-any-right : {A : Type 0} (p : A → Bool) (xs ys : List A) → list_any p ys ≡ true → list_any p (xs ++ ys) ≡ true
-any-right p xs ys h = list_any-append p xs ys ∙ or_right (list_any p xs) (list_any p ys) h
+use Rattle.hq_laws.proofs.Lists.{eq_self, or_left, or_right, any-left, any-right}
 
 pub All-from : {A : Type 0} (P : A → Type 0) (xs : List A) → AllByRecursion P xs → All P xs
 All-from P [] a k d h = absurd (omega arith)

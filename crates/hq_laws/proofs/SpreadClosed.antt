@@ -23,14 +23,13 @@ use Rattle.hq_laws.specs.Stages.{filters, partial_op, final_op, tail_op, sending
 use Rattle.hq_laws.specs.Spread.{Joining, Built, first_source, with_source, with_sources, spread_plan}
 use Rattle.hq_laws.specs.Room.{is_table, are_few, has_room, way_stands, is_joinable, are_joinable, kinds_sent, is_sendable}
 use Rattle.std.specs.List.{AllByRecursion}
-use Rattle.hq_laws.proofs.Lists.{occurs, occurs-append}
-use Rattle.hq_laws.proofs.Partners.{both_true}
+use Rattle.hq_laws.proofs.Lists.{occurs, occurs-append, or_true, both_true}
 use Rattle.hq_laws.proofs.Regroup.{flat_map-append}
 use Rattle.hq_laws.proofs.Chains.{AllByRecursion-append}
 use Rattle.hq_laws.proofs.Stages.{filters-receives, partial-receives, final-receives, tail-receives}
 use Rattle.hq_laws.proofs.Typing.{Seen, seen-from, filters-kinds, final-kinds, tail-kinds}
 use Rattle.hq_laws.proofs.Fitness.{Pass, Ignores, through-partial, through-tail, filters-count, partial-count, final-count, tail-count, conds-fine, partial-fine, final-fine, tail-fine}
-use Rattle.hq_laws.proofs.Shapes.{or_true, result-push, fit-append, gather-push, any-received, all_received, received-once, all-operators, none-any, alone}
+use Rattle.hq_laws.proofs.Shapes.{result-push, fit-append, gather-push, any-received, all_received, received-once, all-operators, none-any, alone}
 use Rattle.hq_laws.proofs.GatheredForm.{pairs-middle, pairs-tail, not-joins}
 use Rattle.hq_laws.proofs.SpreadForm.{Formed, formed-first, formed-by, receives-none, place, sent-there}
 

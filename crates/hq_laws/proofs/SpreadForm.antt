@@ -21,8 +21,7 @@ use Rattle.hq_laws.specs.Stages.{sending}
 use Rattle.hq_laws.specs.Spread.{Way, CopyRight, CopyLeft, MoveBoth, MoveLeft, Built, first_source, added_slices, left_side, right_side}
 use Rattle.hq_laws.specs.Room.{is_table, way_stands, is_sendable}
 use Rattle.std.specs.List.{AllByRecursion}
-use Rattle.hq_laws.proofs.Lists.{occurs, occurs-append}
-use Rattle.hq_laws.proofs.Partners.{both_true}
+use Rattle.hq_laws.proofs.Lists.{occurs, occurs-append, both_true}
 use Rattle.hq_laws.proofs.Regroup.{flat_map-append}
 use Rattle.hq_laws.proofs.Chains.{AllByRecursion-append}
 use Rattle.hq_laws.proofs.Typing.{all_same_themselves}

@@ -24,10 +24,10 @@ use Rattle.hq_laws.specs.Words.{IsOwner}
 use Rattle.hq_laws.specs.Stages.{filters, partial_op, final_op, tail_op, sending}
 use Rattle.hq_laws.specs.Spread.{Joining, Built, first_source, with_source, with_sources, closed, spread_plan, KeysAreImplied, StandByKeys, FitKinds}
 use Rattle.std.specs.List.{AllByRecursion}
-use Rattle.hq_laws.proofs.Lists.{AllByRecursion-All}
+use Rattle.hq_laws.proofs.Lists.{AllByRecursion-All, eq_self, or_assoc, or_false}
 use Rattle.hq_laws.proofs.OverNodes.{kept-over}
-use Rattle.hq_laws.proofs.Stages.{or_false, or_assoc, filters-rows, filters-faults, tail-receives, final-receives, tail-rows, tail-faults, faults-without_having, partials-fault, groups-bag, final-fault, both-steps}
-use Rattle.hq_laws.proofs.Runs.{eq_self, run-append, fault-append, answer-push, sent-at, on-all, gathered, gathered-SameBag}
+use Rattle.hq_laws.proofs.Stages.{filters-rows, filters-faults, tail-receives, final-receives, tail-rows, tail-faults, faults-without_having, partials-fault, groups-bag, final-fault, both-steps}
+use Rattle.hq_laws.proofs.Runs.{run-append, fault-append, answer-push, sent-at, on-all, gathered, gathered-SameBag}
 use Rattle.hq_laws.proofs.Chains.{IsWide, AllByRecursion-flat_map, chained, kept-chained}
 use Rattle.hq_laws.proofs.Standing.{Standing, standing-first, standing-next, bag-now, clean-now}
 

@@ -24,10 +24,10 @@ use Rattle.hq_laws.specs.Words.{IsOwner}
 use Rattle.hq_laws.specs.Stages.{sending}
 use Rattle.hq_laws.specs.Spread.{Way, CopyRight, CopyLeft, MoveBoth, MoveLeft, Joining, Built, first_source, added_slices, left_side, right_side, with_source, StandsByKeys}
 use Rattle.std.specs.List.{AllByRecursion}
-use Rattle.hq_laws.proofs.Lists.{AllByRecursion-All}
+use Rattle.hq_laws.proofs.Lists.{AllByRecursion-All, or_false}
 use Rattle.hq_laws.proofs.Partners.{join-broadcast, join-copied}
 use Rattle.hq_laws.proofs.Owners.{joins-regrouped}
-use Rattle.hq_laws.proofs.Stages.{or_false, never}
+use Rattle.hq_laws.proofs.Stages.{never}
 use Rattle.hq_laws.proofs.Runs.{run-append, fault-append, sent-at, sent-next, NoGather, on-all, gathered, gathered-SameBag}
 use Rattle.hq_laws.proofs.Chains.{AllByRecursion-append}
 

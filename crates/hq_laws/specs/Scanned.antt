@@ -1,7 +1,7 @@
 -- The tables that a plan scans.
 --     is_scanned slices t       some Scan of the slices is of table t
 --     AreScanned slices ts      so it is with each of the tables
-use Rattle.std.specs.Prelude.{ℕ, Bool, ◌==◌, false, List, [], ◌∷◌, IsTrue}
+use Rattle.std.specs.Prelude.{ℕ, Bool, ◌==◌, false, List, IsTrue}
 use Rattle.std.specs.List.{list_any, All}
 use Rattle.hq_algebra.specs.declared.op.Op.{Op}
 use Rattle.hq_algebra.specs.declared.op.Op.TheVariants as op
