@@ -1,0 +1,5 @@
+pub mod Begins
+pub mod Exact
+mod Statements
+mod Tokens
+mod Turns

@@ -1,0 +1,21 @@
+//! Statements of SQL.
+#![tactic(auto)]
+
+mod clauses;
+mod create;
+mod insert;
+mod laws;
+mod lists;
+mod names;
+mod select;
+mod sources;
+mod statement;
+mod text;
+mod tree;
+
+pub use laws::one_reading;
+pub use text::{control, parse};
+pub use tree::{
+    ColumnRefs, Conds, CreateStatement, InsertInput, InsertStatement, Item, Items, Literals, Names,
+    OrderBy, OrderKey, OrderKeys, SelectStatement, SourceName, Sources, Statement, Tuples,
+};
