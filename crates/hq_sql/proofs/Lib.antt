@@ -1,5 +1,5 @@
 pub mod Begins
 pub mod Exact
-mod Statements
+pub mod Statements
 mod Tokens
 mod Turns

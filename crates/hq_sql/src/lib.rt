@@ -13,6 +13,9 @@ mod statement;
 mod text;
 mod tree;
 
+pub use hq_expr::{
+    AggregateKind, ArithKind, ColumnRef, CompareKind, Literal, LongText, ParseFault, SqlExpr,
+};
 pub use laws::one_reading;
 pub use text::{control, parse};
 pub use tree::{
