@@ -1,5 +1,5 @@
 -- The words that statements begin with.
-use Rattle.std.proofs.Common.{◌≡◌, Bool, false, refl}
+use Rattle.std.proofs.Common.{◌≡◌, Bool, refl}
 use Rattle.hq_expr.specs.Reader.{sees}
 use Rattle.hq_expr.specs.declared.cursor.Peek.{Peek}
 use Rattle.hq_expr.specs.declared.mark.Mark.TheVariants as m

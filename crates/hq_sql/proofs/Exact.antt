@@ -3,18 +3,15 @@
 --     sound                   what is read is spelled
 --     complete                what is spelled is read
 use Rattle.std.proofs.Common.{◌≡◌, ◌⊎◌, inl, inr, ℕ, zero, suc, ◌+◌, ◌^◌, ◌<◌, ◌≤◌, Bool, true, false, not, ◌&&◌, ◌||◌, List, [], ◌∷◌, ◌++◌, length, Some, None, Option, refl, sym, ap, subst, ◌∙◌, append_assoc, arith, ltb-true, lt-ltb}
-use Rattle.std.specs.Prelude.{is_some, nat_lt, if◌then◌else◌}
+use Rattle.std.specs.Prelude.{is_some, nat_lt}
 use Rattle.std.specs.List.{list_all}
 use Rattle.std.proofs.lemmas.List.{append-nil}
 use Rattle.hq_expr.specs.State.{State}
 use Rattle.hq_expr.specs.Reader.{Parser, peek, sees, pure, refuse, skip, next, skipped, digits, ◌>>=◌, ◌>>◌, and_then}
 use Rattle.hq_expr.specs.Reader as r
-use Rattle.hq_expr.specs.Reading as expr
 use Rattle.hq_expr.specs.Grammar.{SpellsRef}
 use Rattle.hq_expr.specs.Grammar as g
-use Rattle.hq_expr.specs.Whole.{ends_expr, IsItem, IsCond, IsValue}
-use Rattle.hq_expr.specs.Parts.{item_sum}
-use Rattle.hq_expr.specs.Parts as parts
+use Rattle.hq_expr.specs.Whole.{ends_expr}
 use Rattle.hq_expr.specs.Lists.{Listed, list}
 use Rattle.hq_expr.specs.Lists as lists
 use Rattle.hq_expr.specs.declared.cursor.Peek.{Peek}
@@ -24,12 +21,12 @@ use Rattle.hq_expr.specs.declared.lexeme.Lexeme.TheVariants as lexeme
 use Rattle.hq_expr.specs.declared.mark.Mark.{Mark as MarkType}
 use Rattle.hq_expr.specs.declared.mark.Mark.TheVariants as m
 use Rattle.hq_expr.proofs.Complete.{st, begins_no_rule}
-use Rattle.hq_expr.proofs.Sound.{bind_some, some_parts, sees_mark, if_some, expected}
+use Rattle.hq_expr.proofs.Sound.{bind_some, some_parts, if_some, expected}
 use Rattle.hq_expr.proofs.ListLemmas as l
 use Rattle.hq_expr.proofs.Parts.{item_sound, cond_sound, value_sound, ref_sound, item_complete, cond_complete, value_complete, ref_complete, part_shrinks, value_shrinks, ref_shrinks, part_front}
 use Rattle.hq_sql.specs.Rules.{Rule, nothing, mark, one_of, name, number, reference, value, sum, condition, both, either, listed, repeated, only, Spells, Repeated}
 use Rattle.hq_sql.specs.Rules as rules
-use Rattle.hq_sql.specs.Reading.{is_empty, begins, or_next, read, meaning_at, is_name, is_digits, may_begin_expr, below_limit, passed, chosen, goes_on, repeat_from, kept}
+use Rattle.hq_sql.specs.Reading.{is_empty, begins, or_next, read, meaning_at, is_name, may_begin_expr, below_limit, passed, chosen, goes_on, repeat_from, kept}
 use Rattle.hq_sql.proofs.Tokens.{peeks, everywhere, both_pass}
 
 -- ---- what is read is spelled

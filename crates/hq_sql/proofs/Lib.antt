@@ -1,4 +1,5 @@
 pub mod Begins
+mod Examples
 pub mod Exact
 pub mod Statements
 mod Tokens

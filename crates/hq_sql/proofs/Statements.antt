@@ -1,11 +1,10 @@
 -- Lexemes and texts that are statements.
-use Rattle.std.proofs.Common.{◌≡◌, ◌⊎◌, inl, inr, ℕ, Bool, true, false, List, [], ◌∷◌, map, Option, Some, None, Result, Ok, Err, refl, sym, ap, subst, ◌∙◌}
-use Rattle.std.specs.Str.{IsUtf8}
+use Rattle.std.proofs.Common.{◌≡◌, inl, inr, ℕ, Bool, true, false, List, [], ◌∷◌, map, Option, Some, None, Result, Ok, Err, refl, sym, ap, subst, ◌∙◌}
 use Rattle.std.specs.Result.{IsErrOf}
 use Rattle.hq_lex.specs.declared.token.Token.{Token}
 use Rattle.hq_lex.proofs.TokenLaws.{one_cutting}
 use Rattle.hq_expr.specs.State.{State}
-use Rattle.hq_expr.specs.Reader.{peek, Reads}
+use Rattle.hq_expr.specs.Reader.{Reads}
 use Rattle.hq_expr.specs.declared.fault.ParseFault.{ParseFault}
 use Rattle.hq_expr.specs.declared.fault.ParseFault.TheVariants.{Syntax}
 use Rattle.hq_expr.proofs.Turns.{reads_ok}

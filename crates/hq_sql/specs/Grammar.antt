@@ -1,6 +1,6 @@
 -- The grammar of statements, a rule for each line. In a rule `mark m.Table` is the word TABLE, and `r ▸ q` and `q ◂ r` are one rule
 -- and then the other, where r gives nothing.
-use Rattle.std.specs.Prelude.{ℕ, Bool, true, false, not, ◌&&◌, ◌||◌, nat_le, List, [], ◌∷◌, ◌++◌, length, map, Option, Some, None}
+use Rattle.std.specs.Prelude.{ℕ, Bool, true, false, not, ◌||◌, nat_le, List, [], ◌∷◌, ◌++◌, length, map, Option, Some, None}
 use Rattle.std.specs.List.{list_any, flat_map}
 use Rattle.hq_expr.specs.Uses.{counts_rows}
 use Rattle.hq_expr.specs.declared.mark.Mark.{Mark as MarkType}

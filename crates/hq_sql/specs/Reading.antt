@@ -2,8 +2,7 @@
 --     begins rule k       what the rule spells may begin with a token k
 --     is_empty rule       the rule spells also nothing
 --     read rule           the parser
-use Rattle.std.specs.Prelude.{◌≡◌, ℕ, zero, suc, ◌^◌, nat_lt, Bool, true, false, not, ◌&&◌, ◌||◌, if◌then◌else◌, List, [], ◌∷◌, ◌++◌, length, Option, Some, None, is_some}
-use Rattle.hq_expr.specs.State.{State}
+use Rattle.std.specs.Prelude.{ℕ, zero, suc, ◌^◌, nat_lt, Bool, true, false, ◌&&◌, ◌||◌, if◌then◌else◌, List, [], ◌∷◌, ◌++◌, length, Option, Some, None, is_some}
 use Rattle.hq_expr.specs.Reader.{Parser, ◌>>=◌, ◌>>◌, pure, refuse, skip, next, sees, expect, digits}
 use Rattle.hq_expr.specs.Reader as r
 use Rattle.hq_expr.specs.Reading as expr

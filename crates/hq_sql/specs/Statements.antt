@@ -2,7 +2,7 @@
 --     IsStatement ls s      the lexemes are just the statement s
 --     Parses text s         the text is UTF-8, and its lexemes are just the statement s
 --     IsControl s           s is BEGIN, BEGIN SNAPSHOT, COMMIT or ROLLBACK
-use Rattle.std.specs.Prelude.{ℕ, Bool, List, []}
+use Rattle.std.specs.Prelude.{ℕ, List, []}
 use Rattle.std.specs.Str.{IsUtf8}
 use Rattle.hq_expr.specs.Lexemes.{IsLexed}
 use Rattle.hq_expr.specs.declared.lexeme.Lexeme.{Lexeme}

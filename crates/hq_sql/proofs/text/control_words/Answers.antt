@@ -1,5 +1,4 @@
 use Rattle.std.proofs.Common.{refl}
-use Rattle.hq_sql.specs.declared.tree.Statement.TheVariants as statement
 use Rattle.hq_sql.proofs.Statements.{begin_is, snapshot_is, commit_is, rollback_is, no_control}
 use Rattle.hq_sql.proofs.text.control_words.Goals as goal
 

@@ -1,4 +1,4 @@
-use Rattle.std.proofs.Common.{subst, ◌≡◌, List}
+use Rattle.std.proofs.Common.{subst, List}
 use Rattle.hq_expr.specs.declared.lexeme.Lexeme.{Lexeme}
 use Rattle.hq_sql.specs.Statements.{IsStatement}
 use Rattle.hq_sql.specs.declared.tree.Statement.{Statement}
