@@ -1,3 +1,5 @@
-pub mod Lexing
-pub mod Listing
-pub mod Numbers
+pub mod Every
+pub mod Keys
+mod Utf8
+mod Texts
+mod Forms

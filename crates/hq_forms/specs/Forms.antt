@@ -1,176 +1,148 @@
--- The three forms of a statement.
---     statement_of text       the statement that a text is, or none
+-- The forms of a statement that are answered.
+--     form_of s          the form that a statement is, or none
+--     form_in text       the form that a text is, or none
 --
---     CREATE TABLE name ( name INT , .. )               1 to 64 columns of distinct names
---     INSERT INTO name VALUES ( number , number .. ) , ( .. ) ..
---     SELECT * FROM name
-use Rattle.std.specs.Prelude.{◌<◌, ◌≤◌, ℕ, pos, negsuc, ◌+◌, ◌-◌, ◌*◌, Bool, true, false, not, ◌&&◌, ◌==◌, nat_le, nat_lt, List, [], ◌∷◌, length, map, fold, codes, Option, None, Some, IsTrue, if◌then◌else◌}
-use Rattle.std.specs.List.{list_all, list_any}
-use Rattle.std.specs.Char.{is_ascii_digit}
-use Rattle.std.specs.Str.{bytes_eq}
+--     CREATE TABLE       of 1 to 64 columns of distinct names without NOT NULL, with distinct keys that are columns
+--     INSERT             of rows, without a list of columns
+--     SELECT *           of one table without an alias, and no other clause
+-- A text in a row has at most 1,000 bytes.
+use Rattle.std.specs.Prelude.{◌<◌, ◌≤◌, ℕ, ◌+◌, Bool, true, false, not, ◌&&◌, nat_le, nat_lt, nat_eq, List, [], ◌∷◌, length, map, Option, Some, None, IsTrue, if◌then◌else◌}
+use Rattle.std.specs.List.{list_any}
+use Rattle.std.specs.Str.{bytes_eq, is_utf8}
+use Rattle.hq_value.specs.Tables.{are_distinct, same_names, all_below}
 use Rattle.hq_value.specs.declared.value.Value.{Value}
-use Rattle.hq_value.specs.declared.value.Value.TheVariants.{Int}
+use Rattle.hq_value.specs.declared.value.Value.TheVariants as value
 use Rattle.hq_value.specs.declared.table.Column.{Column}
-use Rattle.hq_value.specs.declared.table.Kind.TheVariants as kind
-use Rattle.hq_value.specs.Tables.{are_distinct, same_names}
-use Rattle.hq_forms.specs.declared.form.Statement.{Statement}
-use Rattle.hq_forms.specs.declared.form.Statement.TheVariants as statement
-use Rattle.hq_forms.specs.Lexemes.{Lexeme, run, minus_run, open_sign, close_sign, comma, star, lexemes}
+use Rattle.hq_expr.specs.declared.tree.Literal.{Literal}
+use Rattle.hq_expr.specs.declared.tree.Literal.TheVariants as literal
+use Rattle.hq_sql.specs.declared.tree.Statement.{Statement}
+use Rattle.hq_sql.specs.declared.tree.Statement.TheVariants as statement
+use Rattle.hq_sql.specs.declared.tree.CreateStatement.{CreateStatement}
+use Rattle.hq_sql.specs.declared.tree.InsertStatement.{InsertStatement}
+use Rattle.hq_sql.specs.declared.tree.InsertInput.{InsertInput}
+use Rattle.hq_sql.specs.declared.tree.InsertInput.TheVariants as input
+use Rattle.hq_sql.specs.declared.tree.SelectStatement.{SelectStatement}
+use Rattle.hq_sql.specs.declared.tree.SourceName.{SourceName}
+use Rattle.hq_forms.specs.Texts.{in_front, statement_in}
+use Rattle.hq_forms.specs.declared.form.Form.{Form}
+use Rattle.hq_forms.specs.declared.form.Form.TheVariants as form
 
 infixl 10 ◌>>=◌
 abbrev pub ◌>>=◌ : {A B : Type 0} → Option A → (A → Option B) → Option B
 None >>= f = None
 (Some x) >>= f = f x
 
--- words that are no names
-abbrev pub reserved_words : List (List ℕ)
-reserved_words =
-    codes "and" ∷ codes "as" ∷ codes "asc" ∷ codes "begin" ∷ codes "bigint" ∷ codes "bool" ∷ codes "boolean" ∷ codes "by"
-    ∷ codes "commit" ∷ codes "count" ∷ codes "create" ∷ codes "desc" ∷ codes "distinct" ∷ codes "distributed" ∷ codes "false"
-    ∷ codes "from" ∷ codes "group" ∷ codes "having" ∷ codes "inner" ∷ codes "insert" ∷ codes "int" ∷ codes "integer"
-    ∷ codes "into" ∷ codes "is" ∷ codes "join" ∷ codes "limit" ∷ codes "max" ∷ codes "min" ∷ codes "not" ∷ codes "null"
-    ∷ codes "on" ∷ codes "or" ∷ codes "order" ∷ codes "randomly" ∷ codes "rollback" ∷ codes "select" ∷ codes "snapshot"
-    ∷ codes "sum" ∷ codes "table" ∷ codes "text" ∷ codes "true" ∷ codes "values" ∷ codes "where" ∷ []
+-- what each of a list gives, where each gives something
+abbrev pub every : {A B : Type 0} → (A → Option B) → List A → Option (List B)
+every f [] = Some []
+every f (x ∷ xs) = f x >>= λ y. in_front y (every f xs)
 
-unfoldable pub is_reserved : List ℕ → Bool
-is_reserved word = list_any (bytes_eq word) reserved_words
+-- ---- CREATE TABLE
 
-abbrev pub begins_with_digit : List ℕ → Bool
-begins_with_digit [] = true
-begins_with_digit (b ∷ bs) = is_ascii_digit b
+abbrev pub one_more : Option ℕ → Option ℕ
+one_more (Some n) = Some (n + 1)
+one_more None = None
 
--- a word of at most 63 bytes that isn't reserved
-abbrev pub is_name : List ℕ → Bool
-is_name word = not (begins_with_digit word) && nat_le (length word) 63 && not (is_reserved word)
+-- the place of the first column of this name
+abbrev pub place_in : List Column → List ℕ → Option ℕ
+place_in [] name = None
+place_in (column ∷ columns) name = if bytes_eq column.name name then Some 0 else one_more (place_in columns name)
 
--- the number that digits stand for
-abbrev pub digits_value : List ℕ → ℕ
-digits_value digits = fold (λ n digit. 10 * n + (digit - 48)) 0 digits
+abbrev pub names : List Column → List (List ℕ)
+names columns = map (λ (column : Column). column.name) columns
 
--- a number as a value, between the least and the greatest of 64 bits
-abbrev pub plain : ℕ → Option Value
-plain n = if nat_lt n 9223372036854775808 then Some (Int (pos n)) else None
+abbrev pub are_few : List Column → Bool
+are_few columns = nat_lt 0 (length columns) && nat_le (length columns) 64
 
-abbrev pub minus : ℕ → Option Value
-minus n = if nat_lt 9223372036854775808 n then None else (if n == 0 then Some (Int (pos 0)) else Some (Int (negsuc (n - 1))))
-
-abbrev pub value_of : Lexeme → Option Value
-value_of (run digits) = if list_all is_ascii_digit digits then plain (digits_value digits) else None
-value_of (minus_run digits) = if list_all is_ascii_digit digits then minus (digits_value digits) else None
-value_of _ = None
-
--- the lexeme that is wanted, and those behind it
-abbrev pub run_at : List Lexeme → Option (List ℕ × List Lexeme)
-run_at (run bytes ∷ ls) = Some (bytes, ls)
-run_at _ = None
-
-abbrev pub word_at : List ℕ → List Lexeme → Option (List Lexeme)
-word_at word ls = run_at ls >>= λ first. if bytes_eq first.0 word then Some first.1 else None
-
-abbrev pub name_at : List Lexeme → Option (List ℕ × List Lexeme)
-name_at ls = run_at ls >>= λ first. if is_name first.0 then Some first else None
-
-abbrev pub open_at : List Lexeme → Option (List Lexeme)
-open_at (open_sign ∷ ls) = Some ls
-open_at _ = None
-
-abbrev pub star_at : List Lexeme → Option (List Lexeme)
-star_at (star ∷ ls) = Some ls
-star_at _ = None
-
-abbrev pub end_at : List Lexeme → Option (List Lexeme)
-end_at [] = Some []
-end_at _ = None
-
-abbrev pub with_rest : Option Value → List Lexeme → Option (Value × List Lexeme)
-with_rest (Some value) ls = Some (value, ls)
-with_rest None ls = None
-
-abbrev pub value_at : List Lexeme → Option (Value × List Lexeme)
-value_at [] = None
-value_at (lexeme ∷ ls) = with_rest (value_of lexeme) ls
-
--- a column of 64-bit integers
-abbrev pub column_of : List ℕ → List ℕ → Option Column
-column_of name word = if is_name name && bytes_eq word (codes "int") then Some (record { name = name; kind = kind.Int; not_null = false }) else None
-
--- a column in front of those behind it
-abbrev pub onto_columns : Option Column → Option (List Column × List Lexeme) → Option (List Column × List Lexeme)
-onto_columns (Some column) (Some (columns, ls)) = Some (column ∷ columns, ls)
-onto_columns _ _ = None
-
--- The columns up to their closing parenthesis, and what stands behind it: from a column's name on, and from
--- behind a column on, where a comma or the parenthesis follows.
-abbrev pub columns_from : Bool → List Lexeme → Option (List Column × List Lexeme)
-columns_from true (run name ∷ run word ∷ ls) = onto_columns (column_of name word) (columns_from false ls)
-columns_from true _ = None
-columns_from false (comma ∷ ls) = columns_from true ls
-columns_from false (close_sign ∷ ls) = Some ([], ls)
-columns_from false _ = None
-
--- a value in front of the first row, of which there is always one
-abbrev pub onto_row : Option Value → Option (List (List Value)) → Option (List (List Value))
-onto_row (Some value) (Some (row ∷ rows)) = Some ((value ∷ row) ∷ rows)
-onto_row (Some value) (Some []) = Some []
-onto_row _ _ = None
-
--- an ended row in front of others
-abbrev pub onto_rows : Option (List (List Value)) → Option (List (List Value))
-onto_rows (Some rows) = Some ([] ∷ rows)
-onto_rows None = None
-
--- The rows up to the end, the first one from a value on, or from behind a value on: a comma and the next value, or a
--- closing parenthesis, and then the end or the next row.
-abbrev pub rows_from : Bool → List Lexeme → Option (List (List Value))
-rows_from true (lexeme ∷ ls) = onto_row (value_of lexeme) (rows_from false ls)
-rows_from true [] = None
-rows_from false (comma ∷ ls) = rows_from true ls
-rows_from false (close_sign ∷ []) = Some ([] ∷ [])
-rows_from false (close_sign ∷ comma ∷ open_sign ∷ ls) = onto_rows (rows_from true ls)
-rows_from false _ = None
+abbrev pub is_not_null : Column → Bool
+is_not_null column = column.not_null
 
 abbrev pub are_columns : List Column → Bool
-are_columns columns = nat_lt 0 (length columns) && nat_le (length columns) 64 && are_distinct same_names (map (λ c. c.name) columns)
+are_columns columns = are_few columns && (are_distinct same_names (names columns) && not (list_any is_not_null columns))
 
--- what follows the first word of each form
-unfoldable pub create_at : List Lexeme → Option Statement
-create_at ls = do
-  table ← word_at (codes "table") ls
-  name ← name_at table
-  opened ← open_at name.1
-  columns ← columns_from true opened
-  end ← end_at columns.1
-  if are_columns columns.0 then Some (statement.Create name.0 columns.0) else None
+abbrev pub if_distinct : List ℕ → Option (List ℕ)
+if_distinct places = if are_distinct nat_eq places then Some places else None
 
-unfoldable pub insert_at : List Lexeme → Option Statement
-insert_at ls = do
-  into ← word_at (codes "into") ls
-  name ← name_at into
-  values ← word_at (codes "values") name.1
-  opened ← open_at values
-  rows ← rows_from true opened
-  Some (statement.Insert name.0 rows)
+-- the places of the keys, where they are distinct columns
+abbrev pub keys_in : List Column → List (List ℕ) → Option (List ℕ)
+keys_in columns keys = every (place_in columns) keys >>= if_distinct
 
-unfoldable pub select_at : List Lexeme → Option Statement
-select_at ls = do
-  all ← star_at ls
-  from ← word_at (codes "from") all
-  name ← name_at from
-  end ← end_at name.1
-  Some (statement.Select name.0)
+abbrev pub create_of : CreateStatement → Option Form
+create_of c = if are_columns c.columns then keys_in c.columns c.keys >>= (λ keys. Some (form.Create c.name c.columns keys)) else None
 
-abbrev pub form_by : List ℕ → List Lexeme → Option Statement
-form_by word ls =
-    if bytes_eq word (codes "create") then create_at ls
-    else (if bytes_eq word (codes "insert") then insert_at ls
-    else (if bytes_eq word (codes "select") then select_at ls
-    else None))
+-- a new table has 1 to 64 columns of distinct names, and distinct keys that are places of columns
+pub record HasColumns (columns : List Column) (keys : List ℕ) : Type 0 where
+  pub some : 0 < length columns
+  pub few : length columns ≤ 64
+  pub distinct : IsTrue (are_distinct same_names (names columns))
+  pub keys_distinct : IsTrue (are_distinct nat_eq keys)
+  pub keys_within : IsTrue (all_below (length columns) keys)
 
--- the statement that a text is, by its first word
-unfoldable pub statement_of : List ℕ → Option Statement
-statement_of text = run_at (lexemes text) >>= λ first. form_by first.0 first.1
+abbrev pub IsGood : Form → Type 0
+IsGood (form.Create name columns keys) = HasColumns columns keys
+IsGood _ = Unit {0}
 
--- a new table has 1 to 64 columns of distinct names
-abbrev pub HasColumns : Statement → Type 0
-HasColumns (statement.Create name columns) = (0 < length columns) × (length columns ≤ 64) × IsTrue (are_distinct same_names (map (λ c. c.name) columns))
-HasColumns _ = Unit {0}
+-- ---- INSERT
+
+abbrev pub chars_of : List ℕ → Option (List ℕ)
+chars_of t = if is_utf8 t then Some t else None
+
+-- what stands in the quotes of a UTF-8 text is UTF-8 too
+abbrev pub text_of : List ℕ → Option Value
+text_of t = if nat_le (length t) 1000 then chars_of t >>= (λ chars. Some (value.Text chars)) else None
+
+abbrev pub value_of : Literal → Option Value
+value_of literal.Null = Some value.Null
+value_of (literal.Bool b) = Some (value.Bool b)
+value_of (literal.Int n) = Some (value.Int n)
+value_of (literal.Text t) = text_of t
+
+abbrev pub row_of : List Literal → Option (List Value)
+row_of literals = every value_of literals
+
+abbrev pub rows_of : InsertInput → Option (List (List Value))
+rows_of (input.Tuples tuples) = every row_of tuples
+rows_of (input.Select select) = None
+
+abbrev pub with_rows : List ℕ → Option (List (List Value)) → Option Form
+with_rows table (Some rows) = Some (form.Insert table rows)
+with_rows table None = None
+
+abbrev pub insert_of : InsertStatement → Option Form
+insert_of i = by i.columns
+  where
+    by : List (List ℕ) → Option Form
+    by [] = with_rows i.name (rows_of i.input)
+    by (column ∷ columns) = None
+
+-- ---- SELECT *
+
+abbrev pub is_missing : {A : Type 0} → Option A → Bool
+is_missing (Some x) = false
+is_missing None = true
+
+abbrev pub is_empty : {A : Type 0} → List A → Bool
+is_empty [] = true
+is_empty (x ∷ xs) = false
+
+-- `*`, and no clause behind the sources
+abbrev pub is_plain : SelectStatement → Bool
+is_plain s = (not s.distinct && (is_empty s.items && is_empty s.conds)) && ((is_empty s.groups && is_missing s.having) && (is_empty s.keys && is_missing s.limit))
+
+abbrev pub table_of : List SourceName → Option (List ℕ)
+table_of (source ∷ []) = if is_missing source.alias then Some source.table else None
+table_of _ = None
+
+abbrev pub select_of : SelectStatement → Option Form
+select_of s = if is_plain s then table_of s.sources >>= (λ table. Some (form.Select table)) else None
+
+-- ---- any form
+
+abbrev pub form_of : Statement → Option Form
+form_of (statement.Create c) = create_of c
+form_of (statement.Insert i) = insert_of i
+form_of (statement.Select s) = select_of s
+form_of _ = None
+
+abbrev pub form_in : List ℕ → Option Form
+form_in text = statement_in text >>= form_of

@@ -1,5 +1,3 @@
 pub mod Forms
-pub mod Lexed
-pub mod Lexemes
-pub mod Lists
-pub mod Reading
+pub mod Texts
+pub mod Gives

@@ -1,11 +1,17 @@
-//! The forms of a statement: CREATE TABLE, INSERT and SELECT *.
+//! The forms of a statement that are answered: CREATE TABLE, INSERT of rows, and SELECT * of one table.
 #![tactic(auto)]
 
-mod column;
+mod create;
 mod form;
-mod lexer;
-mod number;
-mod row;
-mod word;
+mod insert;
+mod laws;
+mod reading;
+mod select;
 
-pub use form::{FormFault, Statement, read_statement};
+pub use form::Form;
+pub use hq_sql::ParseFault;
+pub use laws::forms_are_statements;
+pub use reading::read_form;
+
+#[cfg(test)]
+mod tests;

@@ -5,7 +5,7 @@ use Rattle.std.proofs.lemmas.Option.{slice_get-get_or}
 use Rattle.std.proofs.lemmas.Bool.Decides.{nat_tests}
 use Rattle.hq_value.specs.declared.value.Value.{Value}
 use Rattle.hq_value.specs.declared.table.Column.{Column}
-use Rattle.hq_forms.specs.declared.form.Statement.TheVariants as statement
+use Rattle.hq_forms.specs.declared.form.Form.TheVariants as form
 use Rattle.hq_reply.specs.declared.reply.Reply.{Reply}
 use Rattle.hq_reply.specs.declared.reply.Reply.TheVariants.{Created, Error, Rows}
 use Rattle.hq_reply.specs.declared.fault.Fault.TheVariants as fault
@@ -17,7 +17,7 @@ use Rattle.hq_server.specs.Tables.{Table, is_named, table_named, with_rows, add_
 use Rattle.hq_server.specs.Places.{Grows, Inserts, Selects}
 use Rattle.hq_server.specs.Stands.{Holds, Stands, AnswersTo, IsEmpty, kept_names}
 
-pub no_memory : (s : Option statement.the_data) (tables : List Table) → IsAnswer s tables (Error fault.NoMemory) tables
+pub no_memory : (s : Option form.the_data) (tables : List Table) → IsAnswer s tables (Error fault.NoMemory) tables
 no_memory s tables = inr (refl, refl)
 
 some-more : (o : Option ℕ) → is_some (one_more o) ≡ is_some o
@@ -83,25 +83,25 @@ place-found name (t ∷ ts) i table h g = by (is_named name t) refl h (λ k. pla
     by true e h rest = first i (sym (ap value h)) e g
     by false e h rest = let m = more-some (place_of name (names ts)) i h in later m.0 i m.1 m.2 e g rest
 
-pub create-exists : (tables : List Table) (name : List ℕ) (columns : List Column) → is_some (place_of name (names tables)) ≡ true → IsAnswer (Some (statement.Create name columns)) tables (Error fault.TableExists) tables
-create-exists tables name columns h = let e : is_some (table_named name tables) ≡ true = is_named-some name tables ∙ h in inl (rw e refl, rw e refl)
+pub create-exists : (tables : List Table) (name : List ℕ) (columns : List Column) (keys : List ℕ) → is_some (place_of name (names tables)) ≡ true → IsAnswer (Some (form.Create name columns keys)) tables (Error fault.TableExists) tables
+create-exists tables name columns keys h = let e : is_some (table_named name tables) ≡ true = is_named-some name tables ∙ h in inl (rw e refl, rw e refl)
 
-pub create-many : (tables : List Table) (name : List ℕ) (columns : List Column) → is_some (place_of name (names tables)) ≡ false → 64 ≤ length tables → IsAnswer (Some (statement.Create name columns)) tables (Error fault.TooManyTables) tables
-create-many tables name columns h many =
+pub create-many : (tables : List Table) (name : List ℕ) (columns : List Column) (keys : List ℕ) → is_some (place_of name (names tables)) ≡ false → 64 ≤ length tables → IsAnswer (Some (form.Create name columns keys)) tables (Error fault.TooManyTables) tables
+create-many tables name columns keys h many =
     let e : is_some (table_named name tables) ≡ false = is_named-some name tables ∙ h in
     let f : nat_le 64 (length tables) ≡ true = grind (arith, nat_tests) in
     inl (rw (e, f) refl, rw (e, f) refl)
 
-pub create-made : (tables new : List Table) (name : List ℕ) (columns : List Column) → is_some (place_of name (names tables)) ≡ false → length tables < 64 → new ≡ tables ++ record { name = name; columns = columns; rows = [] } ∷ [] → IsAnswer (Some (statement.Create name columns)) tables Created new
-create-made tables new name columns h few made =
+pub create-made : (tables new : List Table) (name : List ℕ) (columns : List Column) (keys : List ℕ) → is_some (place_of name (names tables)) ≡ false → length tables < 64 → new ≡ tables ++ record { name = name; columns = columns; keys = keys; rows = [] } ∷ [] → IsAnswer (Some (form.Create name columns keys)) tables Created new
+create-made tables new name columns keys h few made =
     let e : is_some (table_named name tables) ≡ false = is_named-some name tables ∙ h in
     let f : nat_le 64 (length tables) ≡ false = grind (arith, nat_tests) in
     inl (rw (e, f) refl, made ∙ rw (e, f) refl)
 
-pub insert-none : (tables : List Table) (name : List ℕ) (rows : List (List Value)) → place_of name (names tables) ≡ None → IsAnswer (Some (statement.Insert name rows)) tables (Error fault.UndefinedTable) tables
+pub insert-none : (tables : List Table) (name : List ℕ) (rows : List (List Value)) → place_of name (names tables) ≡ None → IsAnswer (Some (form.Insert name rows)) tables (Error fault.UndefinedTable) tables
 insert-none tables name rows h = let e : table_named name tables ≡ None = table_named-none name tables h in inl (rw e refl, rw e refl)
 
-pub select-none : (tables : List Table) (name : List ℕ) → place_of name (names tables) ≡ None → IsAnswer (Some (statement.Select name)) tables (Error fault.UndefinedTable) tables
+pub select-none : (tables : List Table) (name : List ℕ) → place_of name (names tables) ≡ None → IsAnswer (Some (form.Select name)) tables (Error fault.UndefinedTable) tables
 select-none tables name h = let e : table_named name tables ≡ None = table_named-none name tables h in inl (rw e refl, refl)
 
 -- what is kept, and the tables that it stands for
@@ -151,42 +151,43 @@ grown-holds : (shares : Shares) (rows : List (List Value)) (kept grown : TableSt
 grown-holds shares rows kept grown t h g = record {
   name = g.name ∙ h.name;
   columns = g.columns ∙ h.columns;
+  keys = g.keys ∙ h.keys;
   buckets = λ b. h.buckets b ++ share kept.keys rows b;
   keeps = g.added h.buckets h.keeps;
   rows = λ x. shares kept.keys rows h.buckets x ∙ SameBag-append (rows_of h.buckets) t.rows rows rows h.rows (λ y. refl) x;
 }
 
-pub still : (s : Option statement.the_data) (kept : List TableState) (reply : Reply) → ((tables : List Table) → Stands kept tables → IsAnswer s tables reply tables) → AnswersTo s kept reply kept
+pub still : (s : Option form.the_data) (kept : List TableState) (reply : Reply) → ((tables : List Table) → Stands kept tables → IsAnswer s tables reply tables) → AnswersTo s kept reply kept
 still s kept reply is = λ tables stands. (tables, is tables stands, stands)
 
-pub no_memory-kept : (s : Option statement.the_data) (kept : List TableState) → AnswersTo s kept (Error fault.NoMemory) kept
+pub no_memory-kept : (s : Option form.the_data) (kept : List TableState) → AnswersTo s kept (Error fault.NoMemory) kept
 no_memory-kept s kept = still s kept (Error fault.NoMemory) (λ tables stands. no_memory s tables)
 
-pub create-exists-kept : (kept : List TableState) (name : List ℕ) (columns : List Column) → is_some (place_of name (kept_names kept)) ≡ true → AnswersTo (Some (statement.Create name columns)) kept (Error fault.TableExists) kept
-create-exists-kept kept name columns h = still (Some (statement.Create name columns)) kept (Error fault.TableExists) (λ tables stands. create-exists tables name columns (ap (λ ns. is_some (place_of name ns)) (sym (Stands-names kept tables stands)) ∙ h))
+pub create-exists-kept : (kept : List TableState) (name : List ℕ) (columns : List Column) (keys : List ℕ) → is_some (place_of name (kept_names kept)) ≡ true → AnswersTo (Some (form.Create name columns keys)) kept (Error fault.TableExists) kept
+create-exists-kept kept name columns keys h = still (Some (form.Create name columns keys)) kept (Error fault.TableExists) (λ tables stands. create-exists tables name columns keys (ap (λ ns. is_some (place_of name ns)) (sym (Stands-names kept tables stands)) ∙ h))
 
-pub create-many-kept : (kept : List TableState) (name : List ℕ) (columns : List Column) → is_some (place_of name (kept_names kept)) ≡ false → 64 ≤ length kept → AnswersTo (Some (statement.Create name columns)) kept (Error fault.TooManyTables) kept
-create-many-kept kept name columns h many = still (Some (statement.Create name columns)) kept (Error fault.TooManyTables) (λ tables stands. create-many tables name columns (ap (λ ns. is_some (place_of name ns)) (sym (Stands-names kept tables stands)) ∙ h) (subst (λ n. 64 ≤ n) (Stands-length kept tables stands) many))
+pub create-many-kept : (kept : List TableState) (name : List ℕ) (columns : List Column) (keys : List ℕ) → is_some (place_of name (kept_names kept)) ≡ false → 64 ≤ length kept → AnswersTo (Some (form.Create name columns keys)) kept (Error fault.TooManyTables) kept
+create-many-kept kept name columns keys h many = still (Some (form.Create name columns keys)) kept (Error fault.TooManyTables) (λ tables stands. create-many tables name columns keys (ap (λ ns. is_some (place_of name ns)) (sym (Stands-names kept tables stands)) ∙ h) (subst (λ n. 64 ≤ n) (Stands-length kept tables stands) many))
 
-pub create-made-kept : (kept new : List TableState) (name : List ℕ) (columns : List Column) → is_some (place_of name (kept_names kept)) ≡ false → length kept < 64 → (k : TableState) × IsEmpty name columns k × (new ≡ kept ++ k ∷ []) → AnswersTo (Some (statement.Create name columns)) kept Created new
-create-made-kept kept new name columns h few (k, empty, made) = λ tables stands.
-    let t : Table = record { name = name; columns = columns; rows = [] } in
-    let holds : Holds k t = record { name = empty.name_is; columns = empty.columns_are; buckets = λ b. []; keeps = empty.empty; rows = λ x. refl } in (
+pub create-made-kept : (kept new : List TableState) (name : List ℕ) (columns : List Column) (keys : List ℕ) → is_some (place_of name (kept_names kept)) ≡ false → length kept < 64 → (k : TableState) × IsEmpty name columns keys k × (new ≡ kept ++ k ∷ []) → AnswersTo (Some (form.Create name columns keys)) kept Created new
+create-made-kept kept new name columns keys h few (k, empty, made) = λ tables stands.
+    let t : Table = record { name = name; columns = columns; keys = keys; rows = [] } in
+    let holds : Holds k t = record { name = empty.name_is; columns = empty.columns_are; keys = empty.keys_are; buckets = λ b. []; keeps = empty.empty; rows = λ x. refl } in (
       tables ++ t ∷ [],
-      create-made tables (tables ++ t ∷ []) name columns (ap (λ ns. is_some (place_of name ns)) (sym (Stands-names kept tables stands)) ∙ h) (subst (λ n. n < 64) (Stands-length kept tables stands) few) refl,
+      create-made tables (tables ++ t ∷ []) name columns keys (ap (λ ns. is_some (place_of name ns)) (sym (Stands-names kept tables stands)) ∙ h) (subst (λ n. n < 64) (Stands-length kept tables stands) few) refl,
       rw made (Stands-push kept tables k t stands holds),
     )
 
 place-kept : (kept : List TableState) (tables : List Table) (name : List ℕ) (found : Option ℕ) → Stands kept tables → place_of name (kept_names kept) ≡ found → place_of name (names tables) ≡ found
 place-kept kept tables name found stands h = ap (place_of name) (sym (Stands-names kept tables stands)) ∙ h
 
-pub insert-none-kept : (kept : List TableState) (name : List ℕ) (rows : List (List Value)) → place_of name (kept_names kept) ≡ None → AnswersTo (Some (statement.Insert name rows)) kept (Error fault.UndefinedTable) kept
-insert-none-kept kept name rows h = still (Some (statement.Insert name rows)) kept (Error fault.UndefinedTable) (λ tables stands. insert-none tables name rows (place-kept kept tables name None stands h))
+pub insert-none-kept : (kept : List TableState) (name : List ℕ) (rows : List (List Value)) → place_of name (kept_names kept) ≡ None → AnswersTo (Some (form.Insert name rows)) kept (Error fault.UndefinedTable) kept
+insert-none-kept kept name rows h = still (Some (form.Insert name rows)) kept (Error fault.UndefinedTable) (λ tables stands. insert-none tables name rows (place-kept kept tables name None stands h))
 
-pub select-none-kept : (kept : List TableState) (name : List ℕ) → place_of name (kept_names kept) ≡ None → AnswersTo (Some (statement.Select name)) kept (Error fault.UndefinedTable) kept
-select-none-kept kept name h = still (Some (statement.Select name)) kept (Error fault.UndefinedTable) (λ tables stands. select-none tables name (place-kept kept tables name None stands h))
+pub select-none-kept : (kept : List TableState) (name : List ℕ) → place_of name (kept_names kept) ≡ None → AnswersTo (Some (form.Select name)) kept (Error fault.UndefinedTable) kept
+select-none-kept kept name h = still (Some (form.Select name)) kept (Error fault.UndefinedTable) (λ tables stands. select-none tables name (place-kept kept tables name None stands h))
 
-pub insert-kept : (shares : Shares) (kept new : List TableState) (name : List ℕ) (rows : List (List Value)) (i : ℕ) (reply : Reply) → place_of name (kept_names kept) ≡ Some i → Inserts rows i kept reply new → AnswersTo (Some (statement.Insert name rows)) kept reply new
+pub insert-kept : (shares : Shares) (kept new : List TableState) (name : List ℕ) (rows : List (List Value)) (i : ℕ) (reply : Reply) → place_of name (kept_names kept) ≡ Some i → Inserts rows i kept reply new → AnswersTo (Some (form.Insert name rows)) kept reply new
 insert-kept shares kept new name rows i reply h (k, at, inl (is, fit, (grown, g, set))) = λ tables stands.
     let found = Stands-get kept tables i k stands at in
     let f = place-found name tables i found.0 (place-kept kept tables name (Some i) stands h) found.1 in
@@ -202,7 +203,7 @@ insert-kept shares kept new name rows i reply h (k, at, inr (inl (is, fit, same)
     (tables, inl (is ∙ sym (rw (f.0, fit') refl), sym (rw (f.0, fit') refl)), rw same stands)
 insert-kept shares kept new name rows i reply h (k, at, inr (inr (is, same))) = λ tables stands. (tables, inr (is, refl), rw same stands)
 
-pub select-kept : (sorts : Sorts) (kept : List TableState) (name : List ℕ) (i : ℕ) (reply : Reply) → place_of name (kept_names kept) ≡ Some i → Selects i kept reply → AnswersTo (Some (statement.Select name)) kept reply kept
+pub select-kept : (sorts : Sorts) (kept : List TableState) (name : List ℕ) (i : ℕ) (reply : Reply) → place_of name (kept_names kept) ≡ Some i → Selects i kept reply → AnswersTo (Some (form.Select name)) kept reply kept
 select-kept sorts kept name i reply h (k, at, inl is) = λ tables stands.
     let found = Stands-get kept tables i k stands at in
     let f = place-found name tables i found.0 (place-kept kept tables name (Some i) stands h) found.1 in

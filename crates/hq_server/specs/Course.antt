@@ -6,7 +6,7 @@
 use Rattle.std.specs.Prelude.{◌≡◌, ℕ, Bool, List, [], ◌∷◌, ◌++◌, map, fold, Option, Some, None, Result, if◌then◌else◌}
 use Rattle.hq_io.specs.Told.{WritesPrefix}
 use Rattle.hq_io.specs.Pieces.{Piece, statement, too_long, unended, is_blank}
-use Rattle.hq_forms.specs.Forms.{statement_of}
+use Rattle.hq_forms.specs.Forms.{form_in}
 use Rattle.hq_reply.specs.declared.reply.Reply.{Reply}
 use Rattle.hq_reply.specs.declared.reply.Reply.TheVariants.{Error}
 use Rattle.hq_reply.specs.declared.fault.Fault.TheVariants as fault
@@ -19,7 +19,7 @@ abbrev pub reply_to : Bool → List Table → Piece → Option Reply
 reply_to missed tables (statement text) =
     if is_blank text then None
     else (if missed then Some (Error fault.NoMemory)
-    else Some (reply_of tables (statement_of text)))
+    else Some (reply_of tables (form_in text)))
 reply_to missed tables too_long = Some (Error fault.TooLong)
 reply_to missed tables unended = Some (Error fault.Syntax)
 
@@ -27,7 +27,7 @@ abbrev pub tables_after : Bool → List Table → Piece → List Table
 tables_after missed tables (statement text) =
     if is_blank text then tables
     else (if missed then tables
-    else after tables (statement_of text))
+    else after tables (form_in text))
 tables_after missed tables too_long = tables
 tables_after missed tables unended = tables
 

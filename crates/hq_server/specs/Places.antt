@@ -13,6 +13,7 @@ use Rattle.hq_server.specs.Fits.{fits}
 pub record Grows (rows : List (List Value)) (old new : TableState) : Type 0 where
   pub name : new.name ≡ old.name
   pub columns : new.columns ≡ old.columns
+  pub keys : new.keys ≡ old.keys
   pub added : (kept : Buckets) → Keeps old kept → Keeps new (λ b. kept b ++ share old.keys rows b)
 
 -- the rows were added to the table there, or don't fit it, or there was no memory

@@ -4,7 +4,7 @@
 use Rattle.std.specs.Prelude.{◌≡◌, ℕ, List, [], ◌∷◌, map, Option}
 use Rattle.hq_value.specs.declared.table.Column.{Column}
 use Rattle.hq_value.specs.Order.{SameBag}
-use Rattle.hq_forms.specs.declared.form.Statement.{Statement}
+use Rattle.hq_forms.specs.declared.form.Form.{Form}
 use Rattle.hq_reply.specs.declared.reply.Reply.{Reply}
 use Rattle.hq_table.specs.Kept.{TableState, Buckets, Keeps, rows_of}
 use Rattle.hq_server.specs.Tables.{Table, IsAnswer}
@@ -12,6 +12,7 @@ use Rattle.hq_server.specs.Tables.{Table, IsAnswer}
 pub record Holds (kept : TableState) (table : Table) : Type 0 where
   pub name : kept.name ≡ table.name
   pub columns : kept.columns ≡ table.columns
+  pub keys : kept.keys ≡ table.keys
   pub buckets : Buckets
   pub keeps : Keeps kept buckets
   pub rows : SameBag (rows_of buckets) table.rows
@@ -25,11 +26,12 @@ abbrev pub kept_names : List TableState → List (List ℕ)
 kept_names kept = map (λ (table : TableState). table.name) kept
 
 -- the reply is the statement's, and what is kept then stands for the tables that it leaves
-abbrev pub AnswersTo : Option Statement → List TableState → Reply → List TableState → Type 0
+abbrev pub AnswersTo : Option Form → List TableState → Reply → List TableState → Type 0
 AnswersTo s old reply new = (tables : List Table) → Stands old tables → (after : List Table) × IsAnswer s tables reply after × Stands new after
 
 -- a new table with no rows
-pub record IsEmpty (name : List ℕ) (columns : List Column) (kept : TableState) : Type 0 where
+pub record IsEmpty (name : List ℕ) (columns : List Column) (keys : List ℕ) (kept : TableState) : Type 0 where
   pub name_is : kept.name ≡ name
   pub columns_are : kept.columns ≡ columns
+  pub keys_are : kept.keys ≡ keys
   pub empty : Keeps kept (λ b. [])

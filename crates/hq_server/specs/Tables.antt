@@ -8,17 +8,18 @@ use Rattle.std.specs.Str.{bytes_eq}
 use Rattle.hq_value.specs.declared.value.Value.{Value}
 use Rattle.hq_value.specs.declared.table.Column.{Column}
 use Rattle.hq_value.specs.Order.{in_row_order}
-use Rattle.hq_forms.specs.declared.form.Statement.{Statement}
-use Rattle.hq_forms.specs.declared.form.Statement.TheVariants as statement
+use Rattle.hq_forms.specs.declared.form.Form.{Form}
+use Rattle.hq_forms.specs.declared.form.Form.TheVariants as form
 use Rattle.hq_reply.specs.declared.reply.Reply.{Reply}
 use Rattle.hq_reply.specs.declared.reply.Reply.TheVariants.{Rows, Inserted, Created, Error}
 use Rattle.hq_reply.specs.declared.fault.Fault.TheVariants as fault
 use Rattle.hq_server.specs.Fits.{fits}
 
--- a table: its name, its columns, and its rows in the order in which they were inserted
+-- a table: its name, its columns, the places of its keys, and its rows in the order in which they were inserted
 pub record Table : Type 0 where
   pub name : List ℕ
   pub columns : List Column
+  pub keys : List ℕ
   pub rows : List (List Value)
 
 abbrev pub is_named : List ℕ → Table → Bool
@@ -49,26 +50,26 @@ abbrev pub inserted : List ℕ → List (List Value) → List Table → Option T
 inserted name rows tables None = tables
 inserted name rows tables (Some table) = if list_all (fits table.columns) rows then add_rows name rows tables else tables
 
-abbrev pub reply_of : List Table → Option Statement → Reply
+abbrev pub reply_of : List Table → Option Form → Reply
 reply_of tables None = Error fault.Syntax
-reply_of tables (Some (statement.Create name columns)) =
+reply_of tables (Some (form.Create name columns keys)) =
     if is_some (table_named name tables) then Error fault.TableExists
     else (if nat_le 64 (length tables) then Error fault.TooManyTables
     else Created)
-reply_of tables (Some (statement.Insert name rows)) = insert_reply rows (table_named name tables)
-reply_of tables (Some (statement.Select name)) = select_reply (table_named name tables)
+reply_of tables (Some (form.Insert name rows)) = insert_reply rows (table_named name tables)
+reply_of tables (Some (form.Select name)) = select_reply (table_named name tables)
 
-abbrev pub after : List Table → Option Statement → List Table
+abbrev pub after : List Table → Option Form → List Table
 after tables None = tables
-after tables (Some (statement.Create name columns)) =
+after tables (Some (form.Create name columns keys)) =
     if is_some (table_named name tables) then tables
     else (if nat_le 64 (length tables) then tables
-    else tables ++ record { name = name; columns = columns; rows = [] } ∷ [])
-after tables (Some (statement.Insert name rows)) = inserted name rows tables (table_named name tables)
-after tables (Some (statement.Select name)) = tables
+    else tables ++ record { name = name; columns = columns; keys = keys; rows = [] } ∷ [])
+after tables (Some (form.Insert name rows)) = inserted name rows tables (table_named name tables)
+after tables (Some (form.Select name)) = tables
 
 -- the reply is the statement's and the tables are those that it leaves, or there was no memory and nothing changed
-abbrev pub IsAnswer : Option Statement → List Table → Reply → List Table → Type 0
+abbrev pub IsAnswer : Option Form → List Table → Reply → List Table → Type 0
 IsAnswer s old reply new = ((reply ≡ reply_of old s) × (new ≡ after old s)) ⊎ ((reply ≡ Error fault.NoMemory) × (new ≡ old))
 
 -- the place of the first of these names that is this one

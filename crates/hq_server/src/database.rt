@@ -1,14 +1,14 @@
 //! Tables in memory and the answers to statements over them.
-ghost use Rattle.std.specs.Prelude.{◌≡◌, ◌<◌, ◌≤◌, ◌++◌, ◌∷◌, [], length, map, Some, IsTrue, IfSome, IfOk, OnOk, OnErr};
+ghost use Rattle.std.specs.Prelude.{◌≡◌, ◌<◌, ◌++◌, ◌∷◌, [], length, Some, IfSome, IfOk, OnOk, OnErr};
 ghost use Rattle.hq_value.specs.Order.{in_row_order};
-ghost use Rattle.hq_value.specs.Tables.{are_distinct, same_names};
+ghost use Rattle.hq_forms.specs.Forms.{HasColumns};
 ghost use Rattle.hq_table.specs.Kept.{TableState, Buckets, Keeps, rows_of};
 ghost use Rattle.hq_table.specs.Home.{IsQuiet};
 ghost use Rattle.hq_server.specs.Tables.{place_of};
 ghost use Rattle.hq_server.specs.Places.{Inserts, Selects};
 ghost use Rattle.hq_server.specs.Stands.{IsEmpty, kept_names};
 
-use hq_forms::{FormFault, Statement, read_statement};
+use hq_forms::{Form, ParseFault, read_form};
 use hq_reply::{Fault, Reply};
 use hq_store::MemStore;
 use hq_table::{Table, shares_are_the_rows};
@@ -43,7 +43,7 @@ impl Model for Database {
 
 impl Database {
     ghost use Rattle.hq_server.specs.Stands.{AnswersTo};
-    ghost use Rattle.hq_forms.specs.Forms.{statement_of, HasColumns};
+    ghost use Rattle.hq_forms.specs.Forms.{form_in, HasColumns};
 
     /// No tables.
     pub fn new(alloc: Global) -> Database
@@ -57,20 +57,26 @@ impl Database {
 
     /// The reply to a statement's text. Without memory it is that fault, and nothing changes.
     pub fn answer(&mut self, alloc: Global, text: &[u8]) -> Reply
-        ensures { AnswersTo (statement_of text.now) self.old result self.new }
+        ensures { AnswersTo (form_in text.now) self.old result self.new }
     {
-        match read_statement(alloc, text) {
-            Ok(Statement::Create { name, columns }) => self.create(alloc, name, columns),
-            Ok(Statement::Insert { name, rows }) => self.insert(alloc, &name, rows),
-            Ok(Statement::Select { name }) => self.select(alloc, &name),
-            Err(FormFault::Syntax) => Reply::Error(Fault::Syntax),
-            Err(FormFault::NoMemory) => Reply::Error(Fault::NoMemory),
+        match read_form(alloc, text) {
+            Ok(
+                Form::Create {
+                    name,
+                    columns,
+                    keys,
+                },
+            ) => self.create(alloc, name, columns, keys),
+            Ok(Form::Insert { name, rows }) => self.insert(alloc, &name, rows),
+            Ok(Form::Select { name }) => self.select(alloc, &name),
+            Err(ParseFault::Syntax) => Reply::Error(Fault::Syntax),
+            Err(ParseFault::NoMemory) => Reply::Error(Fault::NoMemory),
         }
     }
 
-    fn create(&mut self, alloc: Global, name: Name, columns: Columns) -> Reply
-        requires { HasColumns (Statement.Create name columns) }
-        ensures { AnswersTo (Some (Statement.Create name columns)) self.old result self.new }
+    fn create(&mut self, alloc: Global, name: Name, columns: Columns, keys: Keys) -> Reply
+        requires { HasColumns columns keys }
+        ensures { AnswersTo (Some (Form.Create name columns keys)) self.old result self.new }
     {
         if place_of(&self.tables, &name).is_some() {
             return Reply::Error(Fault::TableExists);
@@ -78,14 +84,14 @@ impl Database {
         if self.tables.len() >= MOST_TABLES {
             return Reply::Error(Fault::TooManyTables);
         }
-        match add_table(alloc, &mut self.tables, name, columns) {
+        match add_table(alloc, &mut self.tables, name, columns, keys) {
             Ok(()) => Reply::Created,
             Err(NoMemory) => Reply::Error(Fault::NoMemory),
         }
     }
 
     fn insert(&mut self, alloc: Global, name: &Name, rows: Sequence<Row>) -> Reply
-        ensures { AnswersTo (Some (Statement.Insert name.now rows)) self.old result self.new }
+        ensures { AnswersTo (Some (Form.Insert name.now rows)) self.old result self.new }
     {
         shares_are_the_rows();
         match place_of(&self.tables, name) {
@@ -101,7 +107,7 @@ impl Database {
     }
 
     fn select(&mut self, alloc: Global, name: &Name) -> Reply
-        ensures { AnswersTo (Some (Statement.Select name.now)) self.old result self.new }
+        ensures { AnswersTo (Some (Form.Select name.now)) self.old result self.new }
     {
         sorting_forgets_the_order();
         match place_of(&self.tables, name) {
@@ -136,18 +142,17 @@ fn add_table(
     tables: &mut Vec<Table>,
     name: Name,
     columns: Columns,
+    keys: Keys,
 ) -> Result<(), NoMemory>
-    requires some { 0 < length columns }
-    requires few { length columns ≤ 64 }
-    requires distinct { IsTrue (are_distinct same_names (map (λ c. c.name) columns)) }
+    requires columns { HasColumns columns keys }
     requires tables { length tables.old.items < 64 }
-    ensures ok { OnOk result ((kept : TableState) × IsEmpty name columns kept × (tables.new.items ≡ tables.old.items ++ kept ∷ [])) }
+    ensures ok { OnOk result ((kept : TableState) × IsEmpty name columns keys kept × (tables.new.items ≡ tables.old.items ++ kept ∷ [])) }
     ensures err { OnErr result (tables.new.items ≡ tables.old.items) }
 {
     let def = TableDef {
         name,
         columns,
-        keys: Keys::new(alloc),
+        keys,
     };
     let table = Table::new(alloc, tables.len() as u32, def)?;
     match tables.push(table) {

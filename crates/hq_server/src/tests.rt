@@ -89,16 +89,27 @@ fn statements_are_refused_in_their_order(rt: HostRuntime) -> Result<(), Fail> {
         ),
         ("CREATE TABLE t (a INT, A INT);", syntax),
         ("CREATE TABLE select (a INT);", syntax),
-        ("CREATE TABLE t (a TEXT);", syntax),
+        ("CREATE TABLE t (a TEXT NOT NULL);", syntax),
+        ("CREATE TABLE t (a INT) DISTRIBUTED BY (b);", syntax),
         ("CREATE TABLE t ();", syntax),
         ("INSERT INTO t VALUES (9223372036854775808);", syntax),
-        ("INSERT INTO t VALUES ('a');", syntax),
-        ("SELECT * FROM t -- all\n;", syntax),
+        (
+            "CREATE TABLE t (a INT);INSERT INTO t VALUES (1),('a');SELECT * FROM t -- all;\n;",
+            "CREATE TABLE\nERROR 42804 kinds do not fit\nSELECT 0\n",
+        ),
         ("SELECT * FROM t", syntax),
         ("\u{e9};", syntax),
         (
             "CREATE TABLE t (a INT);INSERT INTO t VALUES (-9223372036854775808),(- 007),(9223372036854775807);SELECT * FROM t;",
             "CREATE TABLE\nINSERT 3\n-9223372036854775808\n-7\n9223372036854775807\nSELECT 3\n",
+        ),
+        (
+            "CREATE TABLE s (a TEXT);INSERT INTO s VALUES ('a;b');SELECT * FROM s;",
+            "CREATE TABLE\nINSERT 1\na;b\nSELECT 1\n",
+        ),
+        (
+            "CREATE TABLE s (a TEXT, b BOOL) DISTRIBUTED BY (b, a);INSERT INTO s VALUES ('a|\\\nb', TRUE),(NULL, NULL),('it''s', false);SELECT * FROM s;",
+            "CREATE TABLE\nINSERT 3\na\\|\\\\\\nb|t\nit's|f\n\\N|\\N\nSELECT 3\n",
         ),
         (
             "CREATE TABLE t (a INT, b INT);INSERT INTO t VALUES (2,1),(1,9),(2,0);SELECT * FROM t;",

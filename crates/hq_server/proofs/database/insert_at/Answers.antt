@@ -24,6 +24,7 @@ returns-in-Ok-clause-answer c =
     let grows : Grows c.args.rows.items table c.insert.new.self = record {
       name = ap (λ (t : TableState). t.name) c.in-Ok.ensures.def;
       columns = ap (λ (t : TableState). t.columns) c.in-Ok.ensures.def;
+      keys = ap (λ (t : TableState). t.keys) c.in-Ok.ensures.def;
       added = c.in-Ok.ensures.added;
     } in
     (table, at, inl (ap Inserted (c.len-count.ensures ∙ sym c.deref.ensures.len ∙ ap length c.deref.ensures.value), fit, (c.insert.new.self, grows, refl)))

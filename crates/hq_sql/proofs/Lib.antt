@@ -1,0 +1,6 @@
+pub mod Begins
+mod Examples
+pub mod Exact
+pub mod Statements
+mod Tokens
+mod Turns

@@ -1,0 +1,24 @@
+//! Statements of SQL.
+#![tactic(auto)]
+
+mod clauses;
+mod create;
+mod insert;
+mod laws;
+mod lists;
+mod names;
+mod select;
+mod sources;
+mod statement;
+mod text;
+mod tree;
+
+pub use hq_expr::{
+    AggregateKind, ArithKind, ColumnRef, CompareKind, Literal, LongText, ParseFault, SqlExpr,
+};
+pub use laws::one_reading;
+pub use text::{control, parse};
+pub use tree::{
+    ColumnRefs, Conds, CreateStatement, InsertInput, InsertStatement, Item, Items, Literals, Names,
+    OrderBy, OrderKey, OrderKeys, SelectStatement, SourceName, Sources, Statement, Tuples,
+};
