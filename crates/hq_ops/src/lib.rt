@@ -1,0 +1,14 @@
+//! The operators of a plan over rows in memory.
+#![tactic(auto)]
+
+mod distinct;
+mod end;
+mod filter;
+mod project;
+mod sort;
+
+pub use distinct::distinct_rows;
+pub use end::OpEnd;
+pub use filter::filter_rows;
+pub use project::project_rows;
+pub use sort::sort_rows;
