@@ -1,0 +1,4 @@
+pub mod Bags
+pub mod Examples
+pub mod MeanLaw
+pub mod Together
