@@ -1,29 +1,13 @@
 -- One more row behind the first of equal rows.
 use Rattle.std.proofs.Common.{◌≡◌, Bool, true, false, cond, not, ◌||◌, List, [], ◌∷◌, ◌++◌, filter, refl, sym, ◌∙◌, ap}
 use Rattle.std.specs.List.{list_any}
-use Rattle.std.specs.Ordering.{is_eq}
-use Rattle.std.specs.declared.cmp.Ordering.{Ordering}
-use Rattle.std.specs.declared.cmp.Ordering.TheVariants.{Less, Equal, Greater}
 use Rattle.std.specs.Cmp.Lexicographic.{pointwise}
-use Rattle.std.proofs.lemmas.Cmp.{tied_itself}
 use Rattle.std.proofs.lemmas.List.{append-nil}
 use Rattle.std.proofs.lemmas.List.Elements.{filter-append}
-use Rattle.hq_value.specs.Order.{row_cmp}
 use Rattle.hq_value.specs.contracts.value.ValuePartialEq.TheImpl as partial
 use Rattle.hq_value.proofs.Equal.{row_ties}
-use Rattle.hq_value.proofs.Order.{row_total, row_exact}
 use Rattle.hq_meaning.specs.Rows.{Row, firsts, same_row}
-
-pub same_equal : (x y : Row) → same_row x y ≡ true → x ≡ y
-same_equal x y h = row_exact x y (by (row_cmp x y) h)
-  where
-    by : (o : Ordering) → is_eq o ≡ true → o ≡ Equal
-    by Less h = cc
-    by Equal h = refl
-    by Greater h = cc
-
-pub same_self : (x : Row) → same_row x x ≡ true
-same_self x = ap is_eq (tied_itself row_total x)
+use Rattle.hq_meaning.proofs.Bags.{same_equal, same_self}
 
 pub flip_same : (x y : Row) → same_row x y ≡ same_row y x
 flip_same x y = by (same_row x y) (same_row y x) refl refl

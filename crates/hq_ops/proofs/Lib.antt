@@ -1,3 +1,4 @@
 pub mod Firsts
+pub mod Grouping
 pub mod Ordered
 pub mod Steps

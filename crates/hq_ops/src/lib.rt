@@ -4,6 +4,7 @@
 mod distinct;
 mod end;
 mod filter;
+mod groups;
 mod project;
 mod sort;
 
