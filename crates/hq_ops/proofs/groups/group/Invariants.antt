@@ -1,4 +1,4 @@
-use Rattle.std.proofs.Common.{◌≡◌, take}
+use Rattle.std.proofs.Common.{take}
 use Rattle.hq_ops.specs.Grouping.{key_by, groups_of, IsGrouping}
 use Rattle.hq_ops.proofs.groups.group.Given as goal
 
