@@ -1,4 +1,5 @@
 pub mod Firsts
+pub mod Folds
 pub mod Grouping
 pub mod Joining
 pub mod Ordered

@@ -1,2 +1,4 @@
 pub mod Ends
+pub mod Folds
 pub mod Grouping
+pub mod Sources

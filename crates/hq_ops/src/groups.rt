@@ -22,10 +22,11 @@ pub struct Groups<'a> {
     pub rows: Vec<Vec<&'a Row>>,
 }
 
-fn copy_column(alloc: Global, row: &Row, place: u16) -> Result<Value, NoMemory>
+/// The value at a place; NULL past the end, where no column of a plan is.
+pub fn copy_column(alloc: Global, row: &Row, place: usize) -> Result<Value, NoMemory>
     ensures { IfOk result (λ value. value ≡ column row.now place) }
 {
-    match row.as_slice().get(place as usize) {
+    match row.as_slice().get(place) {
         Some(value) => value.copy(alloc),
         None => Ok(Value::Null),
     }
@@ -37,7 +38,7 @@ pub fn key_row(alloc: Global, places: &[u16], row: &Row) -> Result<Row, NoMemory
 {
     let mut values = Vec::with_capacity(alloc, places.len())?;
     for place in places {
-        values.push(copy_column(alloc, row, *place)?)?;
+        values.push(copy_column(alloc, row, *place as usize)?)?;
     }
     Ok(Sequence::from_vec(values))
 }

@@ -1,6 +1,7 @@
 //! The operators of a plan over rows in memory.
 #![tactic(auto)]
 
+mod best;
 mod distinct;
 mod end;
 mod filter;
@@ -8,6 +9,8 @@ mod groups;
 mod join;
 mod project;
 mod sort;
+mod source;
+mod sum;
 
 pub use distinct::distinct_rows;
 pub use end::OpEnd;
