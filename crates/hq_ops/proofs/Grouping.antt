@@ -1,19 +1,22 @@
 -- One more row in its group.
-use Rattle.std.proofs.Common.{◌≡◌, ℕ, suc, ◌+◌, Bool, true, false, cond, not, ◌||◌, List, [], ◌∷◌, ◌++◌, map, filter, get_or, slice_set, subst, refl, sym, ◌∙◌, ap, arith}
+use Rattle.std.proofs.Common.{zero, length, take, ◌==◌, ◌≡◌, ℕ, suc, ◌+◌, Bool, true, false, cond, not, ◌||◌, List, [], ◌∷◌, ◌++◌, map, filter, get_or, slice_set, subst, refl, sym, ◌∙◌, ap, arith}
 use Rattle.std.specs.Borrow.{Bor}
 use Rattle.std.specs.Global.{Vec}
 use Rattle.std.specs.List.{list_any, position_or_len}
 use Rattle.std.specs.Cmp.Lexicographic.{pointwise}
 use Rattle.std.proofs.lemmas.List.{append-nil, map-append, map-set}
+use Rattle.std.proofs.lemmas.Bool.{eqb-true}
 use Rattle.std.proofs.lemmas.List.Elements.{filter-append}
 use Rattle.std.proofs.Math.ListN as indexed
 use Rattle.hq_value.specs.declared.value.Value.{Value}
 use Rattle.hq_value.specs.contracts.value.ValuePartialEq.TheImpl as partial
 use Rattle.hq_value.proofs.Equal.{row_ties}
 use Rattle.hq_meaning.specs.Rows.{Row, firsts, same_row}
-use Rattle.hq_meaning.specs.Groups.{members}
+use Rattle.hq_meaning.specs.Groups.{key_of, keys_found, members}
 use Rattle.hq_meaning.proofs.Bags.{same_equal, same_self}
-use Rattle.hq_ops.specs.Grouping.{the_rows, groups_of, IsGrouping}
+use Rattle.hq_ops.specs.declared.groups.GroupBy.{GroupBy}
+use Rattle.hq_ops.specs.declared.groups.GroupBy.TheVariants as by
+use Rattle.hq_ops.specs.Grouping.{key_by, width_by, the_rows, groups_of, IsGrouping, IsFullGrouping}
 use Rattle.hq_ops.proofs.Firsts.{flip_same, any-firsts, firsts-push, keys-step}
 
 abbrev AllOf : (Row → Type 0) → List Row → Type 0
@@ -131,3 +134,44 @@ grouping-step key xs x olds news y gs hs index fresh old new before ey en ef ei 
       ∙ groups-step key xs x.now olds y (groups_of gs) (groups_of hs) index fresh (rows_in new) (rows_in old) before.firsts_are ey before.groups_are ef ei eh
       (ap the_rows ew ∙ map-append (λ (r : Bor (List Value)). r.now) old.items (x ∷ []) ∙ ap (λ l. l ++ x.now ∷ []) (ap rows_in eo ∙ sym (indexed.get_or-map rows_in hs index old)));
 }
+
+-- Without keys there is one group.
+nil-of : (places : List ℕ) → length places ≡ 0 → (row : Row) → key_of places row ≡ []
+nil-of [] h row = refl
+nil-of (p ∷ places) h row = absurd (omega (arith, h))
+
+key-nil : (by : GroupBy) → width_by by ≡ 0 → (row : Row) → key_by by row ≡ []
+key-nil (by.Columns places) h row = nil-of places.now h row
+key-nil (by.First count) h row = ap (λ n. take n row) h
+
+abbrev nil : Row → Row
+nil row = []
+
+firsts-nil : (r : Row) (rows : List Row) → firsts (map nil (r ∷ rows)) ≡ [] ∷ []
+firsts-nil r [] = refl
+firsts-nil r (s ∷ rows) = ap (λ l. [] ∷ filter (λ y. not (same_row [] y)) l) (firsts-nil s rows)
+
+found-firsts : (n : ℕ) (key : Row → Row) → (n ≡ 0 → (row : Row) → key row ≡ []) → (rows : List Row) → ((length rows == 0) ≡ true → (n == 0) ≡ false) → keys_found n key rows ≡ firsts (map key rows)
+found-firsts (suc n) key h rows some = refl
+found-firsts zero key h [] some = let u : true ≡ false = some refl in cc
+found-firsts zero key h (r ∷ rows) some = sym (firsts-nil r rows) ∙ (λ i. firsts (map (λ row. sym (h refl row) i) (r ∷ rows)))
+
+-- groups of some row, or by some column, are all
+pub full : (by : GroupBy) (rows keys : List Row) (groups : List (List Row)) → ((length rows == 0) ≡ true → (width_by by == 0) ≡ false) → IsGrouping (key_by by) rows keys groups → IsFullGrouping (width_by by) (key_by by) rows keys groups
+full by rows keys groups some g =
+    let found : keys_found (width_by by) (key_by by) rows ≡ firsts (map (key_by by) rows) = found-firsts (width_by by) (key_by by) (key-nil by) rows some in
+    record {
+      keys_are = g.firsts_are ∙ sym found;
+      groups_are = g.groups_are ∙ ap (map (λ k. members (key_by by) k rows)) (sym found);
+    }
+
+-- no row and no key: one group of no row
+pub full-none : (by : GroupBy) (rows keys : List Row) (groups : List (List Row)) → (length rows == 0) ≡ true → (width_by by == 0) ≡ true → keys ≡ [] ∷ [] → groups ≡ [] ∷ [] → IsFullGrouping (width_by by) (key_by by) rows keys groups
+full-none by [] keys groups none h ek eg =
+    let zero_wide : width_by by ≡ 0 = eqb-true (width_by by) 0 h in
+    let found : keys_found (width_by by) (key_by by) [] ≡ [] ∷ [] = ap (λ n. keys_found n (key_by by) []) zero_wide in
+    record {
+      keys_are = ek ∙ sym found;
+      groups_are = eg ∙ ap (map (λ k. members (key_by by) k [])) (sym found);
+    }
+full-none by (r ∷ rows) keys groups none h ek eg = absurd (omega (arith, eqb-true (length (r ∷ rows)) 0 none))

@@ -1,8 +1,8 @@
 //! Rows grouped by a key.
-ghost use Rattle.std.specs.Prelude.{◌≡◌, IfOk, take};
+ghost use Rattle.std.specs.Prelude.{◌≡◌, ◌==◌, [], ◌∷◌, IfOk, take};
 ghost use Rattle.hq_algebra.specs.Eval.{column};
 ghost use Rattle.hq_meaning.specs.Groups.{key_of};
-ghost use Rattle.hq_ops.specs.Grouping.{key_by, groups_of, IsGrouping};
+ghost use Rattle.hq_ops.specs.Grouping.{key_by, width_by, groups_of, IsGrouping, IsFullGrouping};
 
 use hq_value::{NoMemory, Row, Sequence, Value};
 use indexmap::IndexSet;
@@ -65,6 +65,16 @@ impl GroupBy<'_> {
             GroupBy::First(count) => first_values(alloc, *count, row),
         }
     }
+
+    // The keys have no column.
+    fn is_empty(&self) -> bool
+        ensures { result ≡ (width_by self.now == 0) }
+    {
+        match self {
+            GroupBy::Columns(places) => places.is_empty(),
+            GroupBy::First(count) => *count == 0,
+        }
+    }
 }
 
 /// Groups rows. NULLs of a key are equal.
@@ -82,4 +92,26 @@ pub fn group<'a>(alloc: Global, by: &GroupBy, rows: &'a [Row]) -> Result<Groups<
         group.push(row)?;
     }
     Ok(Groups { keys, rows: groups })
+}
+
+/// Groups rows. Without keys there is one group, also over no row.
+pub fn group_all<'a>(alloc: Global, by: &GroupBy, rows: &'a [Row]) -> Result<Groups<'a>, NoMemory>
+    ensures { IfOk result (λ found. IsFullGrouping (width_by by.now) (key_by by.now) rows.now found.keys.keys (groups_of found.rows.items)) }
+{
+    if rows.is_empty() && by.is_empty() {
+        return one_group(alloc);
+    }
+    group(alloc, by, rows)
+}
+
+// One group without keys or rows.
+fn one_group<'a>(alloc: Global) -> Result<Groups<'a>, NoMemory>
+    ensures keys { IfOk result (λ found. found.keys.keys ≡ [] ∷ []) }
+    ensures rows { IfOk result (λ found. groups_of found.rows.items ≡ [] ∷ []) }
+{
+    let mut keys = IndexSet::new(alloc);
+    keys.insert(Row::new(alloc))?;
+    let mut rows = Vec::new(alloc);
+    rows.push(Vec::new(alloc))?;
+    Ok(Groups { keys, rows })
 }

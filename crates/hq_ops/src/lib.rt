@@ -2,6 +2,8 @@
 #![tactic(auto)]
 
 mod best;
+mod columns;
+mod count;
 mod distinct;
 mod end;
 mod filter;
