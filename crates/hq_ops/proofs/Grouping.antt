@@ -136,7 +136,7 @@ grouping-step key xs x olds news y gs hs index fresh old new before ey en ef ei 
 }
 
 -- Without keys there is one group.
-nil-of : (places : List ℕ) → length places ≡ 0 → (row : Row) → key_of places row ≡ []
+pub nil-of : (places : List ℕ) → length places ≡ 0 → (row : Row) → key_of places row ≡ []
 nil-of [] h row = refl
 nil-of (p ∷ places) h row = absurd (omega (arith, h))
 
