@@ -51,7 +51,7 @@ pub total-over : (vs : List Value) → total vs ≡ over agg.CountAll vs
 total-over [] = refl
 total-over (v ∷ vs) = ap (plus v) (total-over vs)
 
-number-back : (o : Option ℤ) → number (from_number o) ≡ o
+pub number-back : (o : Option ℤ) → number (from_number o) ≡ o
 number-back None = refl
 number-back (Some n) = refl
 
@@ -68,7 +68,7 @@ total-push vs v = total-over (vs ++ v ∷ []) ∙ over-append agg.CountAll vs (v
 pub sum-step : (vs : List Value) (v : Value) (old new : Option ℤ) → from_number old ≡ total vs → new ≡ sum_of old (number v) → from_number new ≡ total (vs ++ v ∷ [])
 sum-step vs v old new eo en = ap from_number (en ∙ ap (λ o. sum_of o (number v)) (sym (number-back old) ∙ ap number eo)) ∙ sym (total-push vs v)
 
-over-count : (e : Expr) (vs : List Value) → over (agg.Count e) vs ≡ total vs
+pub over-count : (e : Expr) (vs : List Value) → over (agg.Count e) vs ≡ total vs
 over-count e [] = refl
 over-count e (v ∷ vs) = ap (plus v) (over-count e vs)
 
@@ -118,3 +118,15 @@ over-max e (v ∷ vs) = ap (sooner falling_cmp v) (over-max e vs)
 pub count-faults : (rows : List Row) → list_any (argument_faults agg.CountAll) rows ≡ false
 count-faults [] = refl
 count-faults (r ∷ rows) = count-faults rows
+
+pub over-count_all : (vs : List Value) → over agg.CountAll vs ≡ total vs
+over-count_all vs = sym (total-over vs)
+
+pub over-sum : (e : Expr) (vs : List Value) → over (agg.Sum e) vs ≡ total vs
+over-sum e [] = refl
+over-sum e (v ∷ vs) = ap (plus v) (over-sum e vs)
+
+-- reading a column never faults
+pub column-faults : {X : Type 0} (xs : List X) → list_any (λ (x : X). false) xs ≡ false
+column-faults [] = refl
+column-faults (x ∷ xs) = column-faults xs

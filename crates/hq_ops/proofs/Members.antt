@@ -1,9 +1,9 @@
 -- A loop over groups, and what faults in them.
-use Rattle.std.proofs.Common.{◌≡◌, ℕ, zero, suc, ◌<◌, ◌≤◌, Bool, true, false, cond, not, ◌||◌, ◌&&◌, List, [], ◌∷◌, ◌++◌, length, map, filter, get_or, take, refl, sym, ◌∙◌, ap, subst, arith, append_assoc}
+use Rattle.std.proofs.Common.{◌≡◌, ℕ, zero, suc, ◌<◌, Bool, true, false, cond, ◌||◌, ◌&&◌, List, [], ◌∷◌, ◌++◌, length, map, filter, get_or, refl, sym, ◌∙◌, ap, arith, append_assoc}
 use Rattle.std.specs.Borrow.{Bor}
 use Rattle.std.specs.Global.{Vec}
 use Rattle.std.specs.List.{list_any}
-use Rattle.std.proofs.lemmas.List.{append-nil, length-map, get_or-map, map-append}
+use Rattle.std.proofs.lemmas.List.{length-map, get_or-map, map-append}
 use Rattle.std.proofs.lemmas.List.Folds.{list_any-append}
 use Rattle.std.proofs.Math.ListN as indexed
 use Rattle.hq_value.specs.declared.value.Value.{Value}
@@ -33,7 +33,7 @@ group_at M K keys groups i v k ek eg low ev at =
     record {
       low = omega (arith, low, all);
       at = here;
-      rows_are = ap rows_in ev ∙ sym (get_or-map rows_in groups i v (M k) low) ∙ ap (λ l. get_or l i (M k)) eg ∙ indexed.get_or-map M K i k ∙ ap M (sym here)
+      rows_are = ap rows_in ev ∙ sym (get_or-map rows_in groups i v (M k) low) ∙ ap (λ l. get_or l i (M k)) eg ∙ indexed.get_or-map M K i k ∙ ap M (sym here);
     }
 
 -- as many keys as groups

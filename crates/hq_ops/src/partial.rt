@@ -19,12 +19,7 @@ use std::alloc::Global;
 /// there is one group, also over no row. A count is one Int. A sum is two Ints h and l, the sum being h times 2^63
 /// plus l, with l from 0 to below 2^63, both NULL over no value. The least and the greatest are one value. Numeric
 /// where the argument of an aggregate faults over some row.
-pub fn partial_rows(
-    alloc: Global,
-    keys: &Keys16,
-    aggregates: &Aggregates,
-    rows: &[Row],
-) -> OpEnd
+pub fn partial_rows(alloc: Global, keys: &Keys16, aggregates: &Aggregates, rows: &[Row]) -> OpEnd
     ensures rows { Gives result (spec.partial keys.now aggregates.now rows.now) }
     ensures numeric { IsNumericAt result (partial_faults aggregates.now rows.now) }
 {

@@ -1,4 +1,4 @@
-use Rattle.std.proofs.Common.{◌≡◌, ◌∙◌, ◌∷◌, [], ap, arith, take}
+use Rattle.std.proofs.Common.{◌∙◌, ap, arith, take}
 use Rattle.std.proofs.lemmas.Result.{err_from_is_err_and}
 use Rattle.hq_value.specs.declared.value.Value.{Value as Datum}
 use Rattle.hq_algebra.specs.declared.aggregate.Aggregate.TheVariants as agg

@@ -7,5 +7,5 @@ use Rattle.hq_ops.proofs.finals.finals.Given as goal
 abbrev pub invariant-loop-index : goal.invariant-loop-index
 invariant-loop-index l = record {
   found : l.found.items ≡ map (final_row l.columns l.aggregates l.rows) (take l.index (keys_found l.columns (take l.columns) l.rows));
-  none : list_any (λ k. value_leaves l.aggregates l.columns (members (take l.columns) k l.rows)) (take l.index (keys_found l.columns (take l.columns) l.rows)) ≡ false
+  none : list_any (λ k. value_leaves l.aggregates l.columns (members (take l.columns) k l.rows)) (take l.index (keys_found l.columns (take l.columns) l.rows)) ≡ false;
 }

@@ -9,5 +9,5 @@ use Rattle.hq_ops.proofs.halves.sum_halves.Given as goal
 abbrev pub invariant-loop-row : goal.invariant-loop-row
 invariant-loop-row l = record {
   sum : from_number (number_of l.sum) ≡ total (map (λ row. whole (column row l.at) (column row (l.at + 1))) (the_rows (take l.row-index l.rows)));
-  within : AreWithin (2 ^ 63 * l.row-index) l.sum
+  within : AreWithin (2 ^ 63 * l.row-index) l.sum;
 }

@@ -1,4 +1,4 @@
-use Rattle.std.proofs.Common.{◌≡◌, ◌∙◌, ◌++◌, ◌<◌, ◌≤◌, sym, ap, arith, List, length, map, flat_map, take, true, false, Bool}
+use Rattle.std.proofs.Common.{◌≡◌, ◌∙◌, ◌++◌, sym, ap, arith, List, length, map, flat_map}
 use Rattle.std.specs.List.{list_any}
 use Rattle.std.proofs.lemmas.List.{take_all}
 use Rattle.std.proofs.lemmas.Result.{err_from_is_err_and}
@@ -19,10 +19,10 @@ returns-in_err-row-clause-numeric c =
     let faults = λ (rows : List Row). list_any (λ a. list_any (argument_faults a) rows) c.args.aggregates.now in
     let g : IsGroupAt M K c.loop-index.index c.index-keys-index.result (the_rows c.members-item.result.items) =
     group_at M K c.as_slice-keys.result.now c.deref-members-items.result.now c.loop-index.index c.members-item.result c.index-keys-index.result
-        (c.as_slice-keys.ensures.keys ∙ c.in_ok-groups.ensures.keys_are) (ap groups_of c.deref-members-items.ensures.value ∙ c.in_ok-groups.ensures.groups_are) c.loop-index-test.true c.members-item.is c.index-keys-index.is in
+    (c.as_slice-keys.ensures.keys ∙ c.in_ok-groups.ensures.keys_are) (ap groups_of c.deref-members-items.ensures.value ∙ c.in_ok-groups.ensures.groups_are) c.loop-index-test.true c.members-item.is c.index-keys-index.is in
     let p = err_from_is_err_and c.from_residual-in_err-row.result c.from_residual-in_err-row.ensures.1 in
     stops-on (List Datum) c.from_residual-in_err-row.result c.in_err-row.field-0.0 p.0 _ _
-        (λ h. faults-in-groups c.args.places.now c.args.aggregates.now c.args.rows.now ∙ any-at (λ k. faults (M k)) K c.loop-index.index c.index-keys-index.result g.low g.at (ap faults (sym g.rows_are) ∙ h)) c.in_err-row.ensures.numeric p.1 p.2
+    (λ h. faults-in-groups c.args.places.now c.args.aggregates.now c.args.rows.now ∙ any-at (λ k. faults (M k)) K c.loop-index.index c.index-keys-index.result g.low g.at (ap faults (sym g.rows_are) ∙ h)) c.in_err-row.ensures.numeric p.1 p.2
 
 pub loop-index-preserved : goal.loop-index-preserved
 loop-index-preserved c =
@@ -31,12 +31,12 @@ loop-index-preserved c =
     let faults = λ (rows : List Row). list_any (λ a. list_any (argument_faults a) rows) c.args.aggregates.now in
     let g : IsGroupAt M K c.loop-index.index c.index-keys-index.result (the_rows c.members-item.result.items) =
     group_at M K c.as_slice-keys.result.now c.deref-members-items.result.now c.loop-index.index c.members-item.result c.index-keys-index.result
-        (c.as_slice-keys.ensures.keys ∙ c.in_ok-groups.ensures.keys_are) (ap groups_of c.deref-members-items.ensures.value ∙ c.in_ok-groups.ensures.groups_are) c.loop-index-test.true c.members-item.is c.index-keys-index.is in
+    (c.as_slice-keys.ensures.keys ∙ c.in_ok-groups.ensures.keys_are) (ap groups_of c.deref-members-items.ensures.value ∙ c.in_ok-groups.ensures.groups_are) c.loop-index-test.true c.members-item.is c.index-keys-index.is in
     record {
       found =
-        map-step (spec.partial_row c.args.places.now c.args.aggregates.now c.args.rows.now) K c.loop-index.index c.index-keys-index.result c.loop-index.found.items c.push.new.self.items c.in_ok-row.row g.low g.at c.loop-index.invariant.found
-        (c.in_ok-row.ensures.row ∙ ap (λ rows. c.index-keys-index.result ++ flat_map (λ a. spec.columns_of a (over a (map (added a) rows))) c.args.aggregates.now) g.rows_are) c.in_ok-push.ensures.items;
-      none = any-step (λ k. faults (M k)) K c.loop-index.index c.index-keys-index.result g.low g.at c.loop-index.invariant.none (ap faults (sym g.rows_are) ∙ c.in_ok-row.ensures.numeric)
+          map-step (spec.partial_row c.args.places.now c.args.aggregates.now c.args.rows.now) K c.loop-index.index c.index-keys-index.result c.loop-index.found.items c.push.new.self.items c.in_ok-row.row g.low g.at c.loop-index.invariant.found
+          (c.in_ok-row.ensures.row ∙ ap (λ rows. c.index-keys-index.result ++ flat_map (λ a. spec.columns_of a (over a (map (added a) rows))) c.args.aggregates.now) g.rows_are) c.in_ok-push.ensures.items;
+      none = any-step (λ k. faults (M k)) K c.loop-index.index c.index-keys-index.result g.low g.at c.loop-index.invariant.none (ap faults (sym g.rows_are) ∙ c.in_ok-row.ensures.numeric);
     }
 
 pub returns-clause-rows : goal.returns-clause-rows

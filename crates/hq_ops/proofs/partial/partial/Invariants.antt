@@ -8,5 +8,5 @@ use Rattle.hq_ops.proofs.partial.partial.Given as goal
 abbrev pub invariant-loop-index : goal.invariant-loop-index
 invariant-loop-index l = record {
   found : l.found.items ≡ map (partial_row l.places l.aggregates l.rows) (take l.index (group_keys l.places l.rows));
-  none : list_any (λ k. list_any (λ a. list_any (argument_faults a) (members (key_of l.places) k l.rows)) l.aggregates) (take l.index (group_keys l.places l.rows)) ≡ false
+  none : list_any (λ k. list_any (λ a. list_any (argument_faults a) (members (key_of l.places) k l.rows)) l.aggregates) (take l.index (group_keys l.places l.rows)) ≡ false;
 }
