@@ -1,12 +1,11 @@
 -- What depends on a list of rows only as a bag.
-use Rattle.std.proofs.Common.{flat_map, ◌≡◌, ℕ, ◌+◌, Bool, true, false, not, ◌||◌, cond, if◌then◌else◌, List, [], ◌∷◌, ◌++◌, map, filter, refl, sym, ◌∙◌, ap, arith}
+use Rattle.std.proofs.Common.{flat_map, ◌≡◌, ℕ, ◌+◌, Bool, true, false, not, ◌||◌, cond, List, [], ◌∷◌, ◌++◌, map, filter, refl, sym, ◌∙◌, ap, arith}
 use Rattle.std.specs.List.{list_any}
 use Rattle.std.specs.Ordering.{is_gt, is_eq}
 use Rattle.std.specs.declared.cmp.Ordering.{Ordering}
 use Rattle.std.specs.declared.cmp.Ordering.TheVariants.{Less, Equal, Greater}
 use Rattle.std.proofs.lemmas.Cmp.{tied_itself}
-use Rattle.hq_value.specs.declared.value.Value.{Value}
-use Rattle.hq_value.specs.Sorting.{with_item, sorted_by, times}
+use Rattle.hq_value.specs.Sorting.{with_item, times}
 use Rattle.hq_value.specs.Order.{row_cmp, in_row_order, SameBag}
 use Rattle.hq_value.proofs.Order.{row_total, row_exact, in_row_order-SameBag}
 use Rattle.hq_value.proofs.Sorting.{times-append}
@@ -64,13 +63,13 @@ or_swap false false b = refl
 pub SameBag-map : (g : Row → Row) (xs ys : List Row) → SameBag xs ys → SameBag (map g xs) (map g ys)
 SameBag-map g xs ys same z = respects (λ l. times row_cmp z (map g l)) (λ x n. cond (is_eq (row_cmp z (g x))) 1 0 + n) (λ x l. refl) (λ x y n. add_swap _ _ n) xs ys same
 
-pub SameBag-each : (g : Row → List Row) (xs ys : List Row) → SameBag xs ys → SameBag (flat_map g xs) (flat_map g ys)
-SameBag-each g xs ys same z = respects (λ l. times row_cmp z (flat_map g l)) (λ x n. times row_cmp z (g x) + n) (λ x l. times-append row_cmp z (g x) (flat_map g l)) (λ x y n. add_swap _ _ n) xs ys same
+pub SameBag-flat_map : (g : Row → List Row) (xs ys : List Row) → SameBag xs ys → SameBag (flat_map g xs) (flat_map g ys)
+SameBag-flat_map g xs ys same z = respects (λ l. times row_cmp z (flat_map g l)) (λ x n. times row_cmp z (g x) + n) (λ x l. times-append row_cmp z (g x) (flat_map g l)) (λ x y n. add_swap _ _ n) xs ys same
 
 -- flat_map element gives the same bag
-pub SameBag-each_by : (g k : Row → List Row) → ((x : Row) → SameBag (g x) (k x)) → (xs : List Row) → SameBag (flat_map g xs) (flat_map k xs)
-SameBag-each_by g k same [] z = refl
-SameBag-each_by g k same (x ∷ xs) z = times-append row_cmp z (g x) _ ∙ omega (arith, same x z, SameBag-each_by g k same xs z) ∙ sym (times-append row_cmp z (k x) _)
+pub SameBag-flat_map_by : (g k : Row → List Row) → ((x : Row) → SameBag (g x) (k x)) → (xs : List Row) → SameBag (flat_map g xs) (flat_map k xs)
+SameBag-flat_map_by g k same [] z = refl
+SameBag-flat_map_by g k same (x ∷ xs) z = times-append row_cmp z (g x) _ ∙ omega (arith, same x z, SameBag-flat_map_by g k same xs z) ∙ sym (times-append row_cmp z (k x) _)
 
 pub SameBag-filter : (p : Row → Bool) (xs ys : List Row) → SameBag xs ys → SameBag (filter p xs) (filter p ys)
 SameBag-filter p xs ys same z = respects (λ l. times row_cmp z (filter p l)) (λ x n. cond (p x) (cond (is_eq (row_cmp z x)) 1 0) 0 + n) step (λ x y n. add_swap _ _ n) xs ys same
@@ -87,8 +86,8 @@ any-SameBag p = respects (list_any p) (λ x b. p x || b) (λ x l. refl) (λ x y 
 
 pub SameBag-pairs : (xs ys us vs : List Row) → SameBag xs ys → SameBag us vs → SameBag (pairs xs us) (pairs ys vs)
 SameBag-pairs xs ys us vs same also z =
-    SameBag-each (λ l. map (λ r. l ++ r) us) xs ys same z
-    ∙ SameBag-each_by (λ l. map (λ r. l ++ r) us) (λ l. map (λ r. l ++ r) vs) (λ l. SameBag-map (λ r. l ++ r) us vs also) ys z
+    SameBag-flat_map (λ l. map (λ r. l ++ r) us) xs ys same z
+    ∙ SameBag-flat_map_by (λ l. map (λ r. l ++ r) us) (λ l. map (λ r. l ++ r) vs) (λ l. SameBag-map (λ r. l ++ r) us vs also) ys z
 
 -- the first of equal rows
 without : (x z : Row) (l : List Row) → times row_cmp z (filter (λ y. not (same_row x y)) l) ≡ cond (same_row z x) 0 (times row_cmp z l)

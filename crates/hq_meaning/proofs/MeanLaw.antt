@@ -1,42 +1,41 @@
 -- A query means the same over tables that have the same rows.
-use Rattle.std.proofs.Common.{◌≡◌, ℕ, zero, suc, length, Bool, true, false, cond, ◌||◌, List, [], ◌∷◌, ◌++◌, map, filter, Option, Some, None, take, refl, sym, ◌∙◌, ap}
-use Rattle.std.specs.List.{list_any, list_all}
-use Rattle.std.specs.Ordering.{then_cmp, on, flip_args, ordering_then}
+use Rattle.std.proofs.Common.{◌≡◌, ℕ, zero, suc, length, Bool, true, false, cond, ◌||◌, List, [], ◌∷◌, ◌++◌, map, refl, ◌∙◌, ap}
+use Rattle.std.specs.List.{list_any}
+use Rattle.std.specs.Ordering.{on, flip_args, ordering_then}
 use Rattle.std.specs.Cmp.{IsTotalOrder}
 use Rattle.std.specs.declared.cmp.Ordering.{Ordering}
 use Rattle.std.specs.declared.cmp.Ordering.TheVariants.{Less, Equal, Greater}
 use Rattle.std.proofs.lemmas.Cmp.{on_total, then_total, back_total}
 use Rattle.std.proofs.lemmas.Map.Lookups.{CmpEqualImpliesEq}
 use Rattle.hq_value.specs.declared.value.Value.{Value}
-use Rattle.hq_value.specs.Sorting.{with_item, sorted_by}
-use Rattle.hq_value.specs.Order.{value_cmp, row_cmp, SameBag}
+use Rattle.hq_value.specs.Sorting.{with_item}
+use Rattle.hq_value.specs.Order.{value_cmp, SameBag}
 use Rattle.hq_value.proofs.Order.{value_total, row_total, row_exact}
 use Rattle.hq_value.proofs.Sorting.{commute}
 use Rattle.hq_algebra.specs.declared.aggregate.Aggregate.{Aggregate}
-use Rattle.hq_algebra.specs.declared.expr.Expr.{Expr}
 use Rattle.hq_algebra.specs.declared.op.SortKey.{SortKey}
 use Rattle.hq_algebra.specs.declared.query.Query.{Query}
 use Rattle.hq_algebra.specs.Eval.{column, faults_at}
-use Rattle.hq_meaning.specs.Rows.{Row, pairs, kept, listed, faults_in, firsts, key_cmp, order_cmp, ordered, limited}
+use Rattle.hq_meaning.specs.Rows.{Row, firsts, key_cmp, order_cmp, ordered, limited}
 use Rattle.hq_meaning.specs.Aggregates.{added, over, together, aggregate_of, exact, arguments_fault, leaves_64, argument_faults}
 use Rattle.hq_meaning.specs.Groups.{members, key_of, keys_found, group_keys, group_row, grouped, some_leaves_64}
-use Rattle.hq_meaning.specs.Mean.{Database, Answer, product, source_rows, group_rows, having_rows, distinct_rows, finished, group_faults, faults, answer_of, mean}
+use Rattle.hq_meaning.specs.Mean.{Database, product, source_rows, group_rows, having_rows, distinct_rows, finished, faults, answer_of, mean}
 use Rattle.hq_meaning.proofs.Bags.{respects, any-SameBag, SameBag-refl, SameBag-equal, SameBag-trans, SameBag-map, SameBag-filter, SameBag-pairs, SameBag-firsts}
 use Rattle.hq_meaning.proofs.Together.{together-swap}
 
 -- the order of ORDER BY, ties by row order
-key_total : (key : SortKey) → IsTotalOrder (key_cmp key)
+pub key_total : (key : SortKey) → IsTotalOrder (key_cmp key)
 key_total key = by key.descending
   where
     by : (b : Bool) → IsTotalOrder (cond b (flip_args (on (λ (row : Row). column row key.column) value_cmp)) (on (λ (row : Row). column row key.column) value_cmp))
     by true = back_total (on_total (λ (row : Row). column row key.column) value_total)
     by false = on_total (λ (row : Row). column row key.column) value_total
 
-order_total : (order : List SortKey) → IsTotalOrder (order_cmp order)
+pub order_total : (order : List SortKey) → IsTotalOrder (order_cmp order)
 order_total [] = row_total
 order_total (key ∷ keys) = then_total (key_total key) (order_total keys)
 
-order_exact : (order : List SortKey) → CmpEqualImpliesEq (order_cmp order)
+pub order_exact : (order : List SortKey) → CmpEqualImpliesEq (order_cmp order)
 order_exact [] a b h = row_exact a b h
 order_exact (key ∷ keys) a b h = order_exact keys a b (by (key_cmp key a b) (order_cmp keys a b) h)
   where

@@ -1,11 +1,11 @@
 -- Values come together in any order.
-use Rattle.std.proofs.Common.{◌≡◌, ℕ, ℤ, ◌+ℤ◌, Bool, true, false, cond, List, [], ◌∷◌, ◌++◌, map, Option, Some, None, refl, sym, ◌∙◌, ap, arith, pos}
+use Rattle.std.proofs.Common.{◌≡◌, ℤ, ◌+ℤ◌, Bool, true, false, cond, List, [], ◌∷◌, ◌++◌, Option, Some, None, refl, sym, ◌∙◌, ap, arith}
 use Rattle.std.proofs.lemmas.Int.{ints}
-use Rattle.std.specs.Ordering.{is_gt, nat_cmp, then_cmp, on, ordering_reverse, ordering_then}
+use Rattle.std.specs.Ordering.{is_gt, nat_cmp, ordering_then}
 use Rattle.std.specs.Cmp.{IsTotalOrder}
 use Rattle.std.specs.declared.cmp.Ordering.{Ordering}
 use Rattle.std.specs.declared.cmp.Ordering.TheVariants.{Less, Equal, Greater}
-use Rattle.std.proofs.lemmas.Cmp.{nat_cmp_total, on_total, then_total, back_total, tied_itself}
+use Rattle.std.proofs.lemmas.Cmp.{nat_cmp_total, on_total, then_total, back_total}
 use Rattle.std.proofs.lemmas.Map.Lookups.{CmpEqualImpliesEq}
 use Rattle.hq_value.specs.declared.value.Value.{Value}
 use Rattle.hq_value.specs.declared.value.Value.TheVariants as value
@@ -26,9 +26,9 @@ int_swap a b c = omega (arith, ints)
 int_assoc : (a b c : ℤ) → (a +ℤ b) +ℤ c ≡ a +ℤ (b +ℤ c)
 int_assoc a b c = omega (arith, ints)
 
-number-as_value : (o : Option ℤ) → number (from_number o) ≡ o
-number-as_value None = refl
-number-as_value (Some n) = refl
+number-from_number : (o : Option ℤ) → number (from_number o) ≡ o
+number-from_number None = refl
+number-from_number (Some n) = refl
 
 sum-swap : (x y z : Option ℤ) → sum_of x (sum_of y z) ≡ sum_of y (sum_of x z)
 sum-swap None y z = refl
@@ -43,13 +43,13 @@ sum-assoc (Some a) (Some b) None = refl
 sum-assoc (Some a) (Some b) (Some c) = ap Some (int_assoc a b c)
 
 plus-swap : (x y z : Value) → plus x (plus y z) ≡ plus y (plus x z)
-plus-swap x y z = ap (λ o. from_number (sum_of (number x) o)) (number-as_value _) ∙ ap from_number (sum-swap (number x) (number y) (number z)) ∙ sym (ap (λ o. from_number (sum_of (number y) o)) (number-as_value _))
+plus-swap x y z = ap (λ o. from_number (sum_of (number x) o)) (number-from_number _) ∙ ap from_number (sum-swap (number x) (number y) (number z)) ∙ sym (ap (λ o. from_number (sum_of (number y) o)) (number-from_number _))
 
 plus-assoc : (x y z : Value) → plus (plus x y) z ≡ plus x (plus y z)
-plus-assoc x y z = ap (λ o. from_number (sum_of o (number z))) (number-as_value _) ∙ ap from_number (sum-assoc (number x) (number y) (number z)) ∙ sym (ap (λ o. from_number (sum_of (number x) o)) (number-as_value _))
+plus-assoc x y z = ap (λ o. from_number (sum_of o (number z))) (number-from_number _) ∙ ap from_number (sum-assoc (number x) (number y) (number z)) ∙ sym (ap (λ o. from_number (sum_of (number x) o)) (number-from_number _))
 
 plus-null : (y z : Value) → plus value.Null (plus y z) ≡ plus y z
-plus-null y z = ap from_number (number-as_value (sum_of (number y) (number z)))
+plus-null y z = ap from_number (number-from_number (sum_of (number y) (number z)))
 
 -- the sooner of two is the head of a sorted list
 module _ {R : Value → Value → Ordering} (total : IsTotalOrder R) (exact : CmpEqualImpliesEq R) where

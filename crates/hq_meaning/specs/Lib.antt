@@ -2,5 +2,8 @@ pub mod Aggregates
 pub mod Groups
 pub mod Halves
 pub mod Mean
+pub mod Nodes
 pub mod Operators
+pub mod Plans
 pub mod Rows
+pub mod Slices
