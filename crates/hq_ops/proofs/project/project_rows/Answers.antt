@@ -1,0 +1,7 @@
+use Rattle.hq_ops.proofs.project.project_rows.Goals as goal
+
+pub returns-clause-rows : goal.returns-clause-rows
+returns-clause-rows c = c.of.ensures.rows _ (rw c.as_slice.ensures at c.project.ensures.rows)
+
+pub returns-clause-numeric : goal.returns-clause-numeric
+returns-clause-numeric c = c.of.ensures.numeric _ (rw c.as_slice.ensures at c.project.ensures.numeric)

@@ -1,0 +1,5 @@
+pub mod Ends
+pub mod Folds
+pub mod Grouping
+pub mod Parts
+pub mod Sources

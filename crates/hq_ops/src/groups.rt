@@ -1,0 +1,117 @@
+//! Rows grouped by a key.
+ghost use Rattle.std.specs.Prelude.{◌≡◌, ◌==◌, [], ◌∷◌, IfOk, take};
+ghost use Rattle.hq_algebra.specs.Eval.{column};
+ghost use Rattle.hq_meaning.specs.Groups.{key_of};
+ghost use Rattle.hq_ops.specs.Grouping.{key_by, width_by, groups_of, IsGrouping, IsFullGrouping};
+
+use hq_value::{NoMemory, Row, Sequence, Value};
+use indexmap::IndexSet;
+use std::alloc::Global;
+
+/// What makes the key of a row: the columns at these places, or so many of the first.
+#[derive(Clone, Copy)]
+pub enum GroupBy<'a> {
+    Columns(&'a [u16]),
+    First(u16),
+}
+
+/// The keys by first appearance, and the rows of each.
+#[derive(Drop)]
+pub struct Groups<'a> {
+    pub keys: IndexSet<Row>,
+    pub rows: Vec<Vec<&'a Row>>,
+}
+
+/// The value at a place; NULL past the end, where no column of a plan is.
+pub fn copy_column(alloc: Global, row: &Row, place: usize) -> Result<Value, NoMemory>
+    ensures { IfOk result (λ value. value ≡ column row.now place) }
+{
+    match row.as_slice().get(place) {
+        Some(value) => value.copy(alloc),
+        None => Ok(Value::Null),
+    }
+}
+
+/// The values of a row at these places.
+pub fn key_row(alloc: Global, places: &[u16], row: &Row) -> Result<Row, NoMemory>
+    ensures { IfOk result (λ key. key ≡ key_of places.now row.now) }
+{
+    let mut values = Vec::with_capacity(alloc, places.len())?;
+    for place in places {
+        values.push(copy_column(alloc, row, *place as usize)?)?;
+    }
+    Ok(Sequence::from_vec(values))
+}
+
+// The first values of a row.
+fn first_values(alloc: Global, count: u16, row: &Row) -> Result<Row, NoMemory>
+    ensures { IfOk result (λ key. key ≡ take count row.now) }
+{
+    let values = row.as_slice();
+    let count = values.len().min(count as usize);
+    let mut key = Vec::with_capacity(alloc, count)?;
+    for value in &values[..count] {
+        key.push(value.copy(alloc)?)?;
+    }
+    Ok(Sequence::from_vec(key))
+}
+
+impl GroupBy<'_> {
+    fn key(&self, alloc: Global, row: &Row) -> Result<Row, NoMemory>
+        ensures { IfOk result (λ key. key ≡ key_by self.now row.now) }
+    {
+        match self {
+            GroupBy::Columns(places) => key_row(alloc, places, row),
+            GroupBy::First(count) => first_values(alloc, *count, row),
+        }
+    }
+
+    // The keys have no column.
+    fn is_empty(&self) -> bool
+        ensures { result ≡ (width_by self.now == 0) }
+    {
+        match self {
+            GroupBy::Columns(places) => places.is_empty(),
+            GroupBy::First(count) => *count == 0,
+        }
+    }
+}
+
+/// Groups rows. NULLs of a key are equal.
+pub fn group<'a>(alloc: Global, by: &GroupBy, rows: &'a [Row]) -> Result<Groups<'a>, NoMemory>
+    ensures { IfOk result (λ found. IsGrouping (key_by by.now) rows.now found.keys.keys (groups_of found.rows.items)) }
+{
+    let mut keys = IndexSet::new(alloc);
+    let mut groups = Vec::new(alloc);
+    for row in rows {
+        let (index, fresh) = keys.insert_full(by.key(alloc, row)?)?;
+        if fresh {
+            groups.push(Vec::new(alloc))?;
+        }
+        let group: &mut Vec<&Row> = &mut groups[index];
+        group.push(row)?;
+    }
+    Ok(Groups { keys, rows: groups })
+}
+
+/// Groups rows. Without keys there is one group, also over no row.
+pub fn group_all<'a>(alloc: Global, by: &GroupBy, rows: &'a [Row]) -> Result<Groups<'a>, NoMemory>
+    ensures { IfOk result (λ found. IsFullGrouping (width_by by.now) (key_by by.now) rows.now found.keys.keys (groups_of found.rows.items)) }
+{
+    if rows.is_empty() && by.is_empty() {
+        return one_group(alloc);
+    }
+    group(alloc, by, rows)
+}
+
+// One group without keys or rows.
+fn one_group<'a>(alloc: Global) -> Result<Groups<'a>, NoMemory>
+    ensures keys { IfOk result (λ found. found.keys.keys ≡ [] ∷ []) }
+    ensures rows { IfOk result (λ found. groups_of found.rows.items ≡ [] ∷ []) }
+{
+    let mut keys = IndexSet::new(alloc);
+    keys.insert(Row::new(alloc))?;
+    let mut rows = Vec::new(alloc);
+    rows.push(Vec::new(alloc))?;
+    Ok(Groups { keys, rows })
+}
