@@ -1,11 +1,18 @@
-"""Runs a command, and prints its seconds, its peak memory in MiB and its exit status."""
+"""Runs a command, and tells its seconds, its peak memory in MiB and its exit status."""
 import os, subprocess, time
+from collections import namedtuple
+
+Measured = namedtuple("Measured", "seconds peak status")
 
 
-def timed(name, words, **where):
+def measured(words, **where):
     start = time.monotonic()
     process = subprocess.Popen(words, **where)
     _, status, usage = os.wait4(process.pid, 0)
-    seconds = time.monotonic() - start
-    print("%-8s %7.3f s  %7.1f MiB at the peak  status %d" % (name, seconds, usage.ru_maxrss / 1024, status >> 8))
-    return seconds
+    return Measured(time.monotonic() - start, usage.ru_maxrss / 1024, status >> 8)
+
+
+def timed(name, words, **where):
+    took = measured(words, **where)
+    print("%-8s %7.3f s  %7.1f MiB at the peak  status %d" % (name, *took))
+    return took.seconds

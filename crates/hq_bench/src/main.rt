@@ -2,23 +2,37 @@
 //!
 //! `hq_bench blocks int|text ROWS WRITES READS` writes a block of the rows so often, reads it so often, and shows how
 //! many rows it read and how long the block is.
+//!
+//! `hq_bench table ROWS AT_ONCE SCANS` fills a table with rows of one INT, so many by one insert, scans it so often, and
+//! shows how many rows it scanned and how many bytes the store gave for them.
 #![tactic(auto)]
 
 mod blocks;
+mod table;
 
 use blocks::Blocks;
 use std::process::ExitCode;
 use std::{env, io};
+use table::Scans;
 
 fn main(rt: HostRuntime) -> io::Result<ExitCode> {
     let mut words = Vec::new(rt.alloc());
     for word in env::args(&rt)?.skip(1) {
         words.push(word)?;
     }
-    let Some(blocks) = Blocks::asked(&words) else {
-        eprintln!(rt; "usage: hq_bench blocks int|text ROWS WRITES READS")?;
-        return Ok(ExitCode::from(2));
-    };
+    if let Some(blocks) = Blocks::asked(&words) {
+        return time_blocks(&rt, &blocks);
+    }
+    if let Some(scans) = Scans::asked(&words) {
+        return time_table(&rt, &scans);
+    }
+    eprintln!(rt; "usage: hq_bench blocks int|text ROWS WRITES READS | table ROWS AT_ONCE SCANS")?;
+    Ok(ExitCode::from(2))
+}
+
+const OUT_OF_MEMORY: u8 = 5;
+
+fn time_blocks(rt: &(impl Print + AllocGlobal), blocks: &Blocks) -> io::Result<ExitCode> {
     match blocks.run(rt.alloc()) {
         Some(done) => {
             println!(rt;
@@ -27,6 +41,16 @@ fn main(rt: HostRuntime) -> io::Result<ExitCode> {
             )?;
             Ok(ExitCode::SUCCESS)
         }
-        None => Ok(ExitCode::from(5)),
+        None => Ok(ExitCode::from(OUT_OF_MEMORY)),
+    }
+}
+
+fn time_table(rt: &(impl Print + AllocGlobal), scans: &Scans) -> io::Result<ExitCode> {
+    match scans.run(rt.alloc()) {
+        Some(done) => {
+            println!(rt; "{} rows scanned in {} bytes", done.rows, done.bytes)?;
+            Ok(ExitCode::SUCCESS)
+        }
+        None => Ok(ExitCode::from(OUT_OF_MEMORY)),
     }
 }

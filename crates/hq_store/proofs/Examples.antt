@@ -1,8 +1,8 @@
 -- The definitions at small values.
-use Rattle.std.proofs.Common.{◌≡◌, ℕ, ◌<◌, List, [], ◌∷◌, true, false, Some, None, length, refl, ap, arith, lit<, lit≤}
+use Rattle.std.proofs.Common.{◌≡◌, ℕ, ◌<◌, List, [], ◌∷◌, true, false, Some, None, length, get_or, refl, ap, arith, lit<, lit≤}
 use Rattle.hq_store.specs.FileStep.{FileState, IsTornAt, IsCut}
 use Rattle.hq_store.specs.MemPlan.{MemState, next_tail, NoFailureLeft}
-use Rattle.hq_store.specs.Pieces.{joined}
+use Rattle.hq_store.specs.Pieces.{bytes_in, IsRunAt}
 
 -- the second call leaves 10 bytes, and the third fails too
 abbrev client : ℕ → MemState
@@ -48,5 +48,13 @@ not_as_long xs ys same longer = let equal : length xs ≡ length ys = ap length 
 is_not_cut : IsCut true three 2 torn → ⊥
 is_not_cut cut = not_as_long torn.bytes (1 ∷ 2 ∷ []) (cut.bytes refl) (lit< tt)
 
-in_order : joined ((1 ∷ 2 ∷ []) ∷ (3 ∷ 4 ∷ []) ∷ []) (5 ∷ []) ≡ 1 ∷ 2 ∷ 3 ∷ 4 ∷ 5 ∷ []
+-- a group of two pieces, a piece, a run and a byte that is not shared
+in_order : bytes_in (((1 ∷ 2 ∷ []) ∷ (3 ∷ 4 ∷ []) ∷ []) ∷ []) ((5 ∷ 6 ∷ []) ∷ []) ((7 ∷ []) ∷ []) (8 ∷ []) ≡ 1 ∷ 2 ∷ 3 ∷ 4 ∷ 5 ∷ 6 ∷ 7 ∷ 8 ∷ []
 in_order = refl
+
+is_run : IsRunAt (1 ∷ 2 ∷ 3 ∷ []) 1 (2 ∷ 3 ∷ [])
+is_run = refl
+
+-- its second byte is another
+is_no_run : IsRunAt (1 ∷ 2 ∷ 3 ∷ []) 1 (2 ∷ 4 ∷ []) → ⊥
+is_no_run run = let second : ℕ = 3 in let same : second ≡ 4 = ap (λ (bytes : List ℕ). get_or bytes 1 0) run in omega arith

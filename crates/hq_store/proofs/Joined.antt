@@ -1,70 +1,104 @@
--- Bytes in pieces of one size: counted, read and cut.
-use Rattle.std.proofs.Common.{◌≡◌, ℕ, ◌+◌, ◌-◌, ◌*◌, ◌<◌, ◌≤◌, List, [], ◌∷◌, ◌++◌, suc, zero, length, take, drop, get_or, sym, ◌∙◌, ap, arith, append_assoc, length-append}
+-- Bytes in parts: counted, read and cut.
+use Rattle.std.proofs.Common.{◌≡◌, ℕ, ◌+◌, ◌-◌, ◌*◌, ◌<◌, ◌≤◌, List, [], ◌∷◌, ◌++◌, suc, zero, length, take, drop, get_or, refl, sym, ◌∙◌, ap, arith, append_assoc, append-nil, length-append, set}
 use Rattle.std.specs.Prelude.{slice_range}
-use Rattle.std.specs.List.{flat_map}
 use Rattle.std.proofs.Math.Seq.{take-append_seam, take-append-add, drop-append-add, take-length, take-add}
-use Rattle.std.proofs.lemmas.List.{take-append-le, drop-append-le, take-take, take-append-drop, drop-drop}
-use Rattle.hq_store.specs.Pieces.{joined, AreWhole, IsRunAt}
+use Rattle.std.proofs.lemmas.List.{take-append-le, drop-append-le, take-take, take-append-drop, drop-drop, take_more, flat_map_more, take_more_set, take-set, take_all, length-take}
+use Rattle.std.proofs.lemmas.List.Concat.{flat_map-append, get_or-flat_map}
+use Rattle.hq_store.specs.Pieces.{flat, joined, bytes_in, AreWhole, AreGroups, IsRunAt}
 
--- the bytes of the pieces
-abbrev pub flat : List (List ℕ) → List ℕ
-flat full = flat_map (λ piece. piece) full
+-- parts behind the first
+tail_whole : {A : Type 0} (size : ℕ) (part : List A) (parts : List (List A)) → AreWhole size (part ∷ parts) → AreWhole size parts
+tail_whole size part parts whole k d within = whole (suc k) d (omega arith)
 
--- pieces behind the first
-tail_whole : (size : ℕ) (piece : List ℕ) (full : List (List ℕ)) → AreWhole size (piece ∷ full) → AreWhole size full
-tail_whole size piece full whole k d within = whole (suc k) d (omega arith)
-
--- the bytes of the first pieces
-length-front : (size : ℕ) (full : List (List ℕ)) (place : ℕ) → AreWhole size full → place ≤ length full → length (flat (take place full)) ≡ place * size
-length-front size full zero whole within = omega arith
+-- the members of the first parts
+pub length-front : {A : Type 0} (size : ℕ) (parts : List (List A)) (place : ℕ) → AreWhole size parts → place ≤ length parts → length (flat (take place parts)) ≡ place * size
+length-front size parts zero whole within = omega arith
 length-front size [] (suc place) whole within = omega arith
-length-front size (piece ∷ full) (suc place) whole within =
-    let here : length piece ≡ size = whole 0 [] (omega arith) in
-    let rest : length (flat (take place full)) ≡ place * size =
-    length-front size full place (tail_whole size piece full whole) (omega arith) in
-    omega (arith, length-append piece (flat (take place full)))
+length-front size (part ∷ parts) (suc place) whole within =
+    let here : length part ≡ size = whole 0 [] (omega arith) in
+    let rest : length (flat (take place parts)) ≡ place * size =
+    length-front size parts place (tail_whole size part parts whole) (omega arith) in
+    omega (arith, length-append part (flat (take place parts)))
 
--- the bytes of all pieces
-pub length-flat : (size : ℕ) (full : List (List ℕ)) → AreWhole size full → length (flat full) ≡ length full * size
-length-flat size full whole =
-    ap (λ (pieces : List (List ℕ)). length (flat pieces)) (sym (take-length full))
-    ∙ length-front size full (length full) whole (omega arith)
+-- the members of all parts
+pub length-flat : {A : Type 0} (size : ℕ) (parts : List (List A)) → AreWhole size parts → length (flat parts) ≡ length parts * size
+length-flat {A} size parts whole =
+    ap (λ (all : List (List A)). length (flat all)) (sym (take-length parts))
+    ∙ length-front size parts (length parts) whole (omega arith)
 
--- all bytes, counted
-pub length-joined : (size : ℕ) (full : List (List ℕ)) (tail : List ℕ) → AreWhole size full → length (joined full tail) ≡ length full * size + length tail
-length-joined size full tail whole = omega (arith, length-append (flat full) tail, length-flat size full whole)
+-- all of them, counted
+pub length-joined : {A : Type 0} (size : ℕ) (parts : List (List A)) (rest : List A) → AreWhole size parts → length (joined parts rest) ≡ length parts * size + length rest
+length-joined size parts rest whole = omega (arith, length-append (flat parts) rest, length-flat size parts whole)
 
--- the bytes before a piece, that piece, and what follows it
-split_joined : (full : List (List ℕ)) (tail : List ℕ) (place : ℕ) (d : List ℕ) → place < length full
-    → joined full tail ≡ flat (take place full) ++ (get_or full place d ++ joined (drop (suc place) full) tail)
-split_joined [] tail place d within = absurd (omega arith)
-split_joined (piece ∷ full) tail zero d within = append_assoc piece (flat full) tail
-split_joined (piece ∷ full) tail (suc place) d within =
-    append_assoc piece (flat full) tail
-    ∙ ap (λ (rest : List ℕ). piece ++ rest) (split_joined full tail place d (omega arith))
-    ∙ sym (append_assoc piece (flat (take place full)) (get_or full place d ++ joined (drop (suc place) full) tail))
+-- groups of pieces, counted
+pub length-groups : (size count : ℕ) (groups : List (List (List ℕ))) → AreGroups size count groups → length (flat (flat groups)) ≡ length groups * (count * size)
+length-groups size count groups whole =
+    let pieces : length (flat groups) ≡ length groups * count = length-flat count groups whole.0 in
+    let bytes : length (flat (flat groups)) ≡ length (flat groups) * size = length-flat size (flat groups) whole.1 in
+    bytes ∙ ap (λ (n : ℕ). n * size) pieces ∙ grind arith
 
--- the end of a piece lies in the bytes
-pub run_in_piece : (size : ℕ) (full : List (List ℕ)) (tail : List ℕ) (at place within : ℕ) (piece run : List ℕ) → AreWhole size full
-    → place < length full → at ≡ place * size + within → piece ≡ get_or full place piece → within ≤ size
-    → run ≡ drop within piece → IsRunAt (joined full tail) at run
-run_in_piece size full tail at place within piece run whole there here is inside end =
-    let short : within ≤ length piece = omega (arith, ap length is, whole place piece there) in
-    let more : List ℕ = joined (drop (suc place) full) tail in
-    let front : length (flat (take place full)) ≡ place * size = length-front size full place whole (omega arith) in
-    let split : joined full tail ≡ flat (take place full) ++ (piece ++ more) =
-    split_joined full tail place piece there ∙ ap (λ (p : List ℕ). flat (take place full) ++ (p ++ more)) (sym is) in
-    let from : drop at (joined full tail) ≡ run ++ more =
-    rw (here, ← front, split, drop-append-add, end) (drop-append-le within piece more short) in
+-- the bytes of the groups are among all bytes
+pub groups_within : (groups : List (List (List ℕ))) (pieces runs : List (List ℕ)) (unshared : List ℕ) → length (flat (flat groups)) ≤ length (bytes_in groups pieces runs unshared)
+groups_within groups pieces runs unshared = omega (arith, length-append (flat (flat groups)) (joined pieces (joined runs unshared)))
+
+-- a piece of a group among all pieces
+pub piece_in_group : (count : ℕ) (groups : List (List (List ℕ))) (at place within : ℕ) (group pieces : List (List ℕ)) (piece : List ℕ) → AreWhole count groups
+    → place < length groups → within < count → at ≡ place * count + within → group ≡ get_or groups place group → pieces ≡ group
+    → piece ≡ get_or pieces within piece → piece ≡ get_or (flat groups) at piece
+piece_in_group count groups at place within group pieces piece whole there inside here is_group same is_piece =
+    let front : length (flat (take place groups)) ≡ place * count = length-front count groups place whole (omega arith) in
+    let at_place : at ≡ length (flat (take place groups)) + within = omega arith in
+    let long : within < length (get_or groups place group) = omega (arith, whole place group there) in
+    is_piece
+    ∙ ap (λ (ps : List (List ℕ)). get_or ps within piece) (same ∙ is_group)
+    ∙ sym (get_or-flat_map (λ (g : List (List ℕ)). g) groups place within group piece there long)
+    ∙ ap (λ (n : ℕ). get_or (flat groups) n piece) (sym at_place)
+
+-- one part more
+pub flat_more : {A : Type 0} (parts : List (List A)) (i : ℕ) (d : List A) → i < length parts → flat (take (i + 1) parts) ≡ flat (take i parts) ++ get_or parts i d
+flat_more {A} parts i d within =
+    ap (λ (ps : List (List A)). flat ps) (take_more parts i d within) ∙ sym (flat_map_more (λ (p : List A). p) [] (take i parts) (get_or parts i d))
+
+-- one part more, counted
+pub length-flat_more : {A : Type 0} (parts : List (List A)) (i : ℕ) (d : List A) → i < length parts → length (flat (take (i + 1) parts)) ≡ length (flat (take i parts)) + length (get_or parts i d)
+length-flat_more parts i d within = ap length (flat_more parts i d within) ∙ length-append (flat (take i parts)) (get_or parts i d)
+
+-- the members before a part, the part, and what follows it
+split_flat : {A : Type 0} (parts : List (List A)) (place : ℕ) (d : List A) → place < length parts
+    → flat parts ≡ flat (take place parts) ++ (get_or parts place d ++ flat (drop (suc place) parts))
+split_flat [] place d within = absurd (omega arith)
+split_flat (part ∷ parts) zero d within = refl
+split_flat {A} (part ∷ parts) (suc place) d within =
+    ap (λ (rest : List A). part ++ rest) (split_flat parts place d (omega arith))
+    ∙ sym (append_assoc part (flat (take place parts)) (get_or parts place d ++ flat (drop (suc place) parts)))
+
+-- the end of a part lies in the bytes
+pub run_in_part : (parts : List (List ℕ)) (at place within : ℕ) (part run : List ℕ) → place < length parts
+    → at ≡ length (flat (take place parts)) + within → part ≡ get_or parts place part → within ≤ length part
+    → run ≡ drop within part → IsRunAt (flat parts) at run
+run_in_part parts at place within part run there here is short end =
+    let front : List ℕ = flat (take place parts) in
+    let more : List ℕ = flat (drop (suc place) parts) in
+    let split : flat parts ≡ front ++ (part ++ more) =
+    split_flat parts place part there ∙ ap (λ (p : List ℕ). front ++ (p ++ more)) (sym is) in
+    let from : drop at (flat parts) ≡ run ++ more =
+    rw (here, split, drop-append-add, end) (drop-append-le within part more short) in
     rw from (take-append_seam run more)
 
--- the end of the tail lies in the bytes
-pub run_in_tail : (size : ℕ) (full : List (List ℕ)) (tail : List ℕ) (at within : ℕ) (run : List ℕ) → AreWhole size full
-    → at ≡ length full * size + within → run ≡ drop within tail → IsRunAt (joined full tail) at run
-run_in_tail size full tail at within run whole here end =
-    let front : at ≡ length (flat full) + within = omega (arith, length-flat size full whole) in
-    let from : drop at (joined full tail) ≡ run = rw (front, end) (drop-append-add (flat full) tail within) in
-    rw from (take-length run)
+-- a run of the first bytes is one of all
+pub run_before : (front bytes : List ℕ) (at : ℕ) (run : List ℕ) → at ≤ length front → IsRunAt front at run → IsRunAt (front ++ bytes) at run
+run_before front bytes at run inside is =
+    let long : length run ≤ length (drop at front) = omega (arith, ap length is, length-take (length run) (drop at front)) in
+    let from : drop at (front ++ bytes) ≡ drop at front ++ bytes = drop-append-le at front bytes inside in
+    rw from (take-append-le (length run) (drop at front) bytes long ∙ is)
+
+-- a run of the bytes behind others
+pub run_behind_all : (front bytes : List ℕ) (at within : ℕ) (run : List ℕ) → at ≡ length front + within → IsRunAt bytes within run → IsRunAt (front ++ bytes) at run
+run_behind_all front bytes at within run here is = rw (here, drop-append-add front bytes within) is
+
+-- the end of the bytes
+pub run_to_end : (bytes : List ℕ) (at : ℕ) (run : List ℕ) → run ≡ drop at bytes → IsRunAt bytes at run
+run_to_end bytes at run end = rw (← end) (take-length run)
 
 -- one run more of the bytes
 pub read_more : (bytes before run : List ℕ) (at done count : ℕ) → before ≡ slice_range bytes at (at + done)
@@ -80,39 +114,95 @@ read_more bytes before run at done count so_far is_run short =
     ∙ ap (λ (xs : List ℕ). take count xs) (sym (drop-drop done at bytes)) in
     rw (counted_more, front, part) (sym (take-add done count rest))
 
--- one piece more
-pub joined_push : (full : List (List ℕ)) (piece tail : List ℕ) → joined (full ++ piece ∷ []) tail ≡ joined full (piece ++ tail)
-joined_push [] piece tail = append_assoc piece [] tail
-joined_push (first ∷ full) piece tail =
-    append_assoc first (flat (full ++ piece ∷ [])) tail
-    ∙ ap (λ (rest : List ℕ). first ++ rest) (joined_push full piece tail)
-    ∙ sym (append_assoc first (flat full) (piece ++ tail))
+-- one part more
+pub joined_push : {A : Type 0} (parts : List (List A)) (part rest : List A) → joined (parts ++ part ∷ []) rest ≡ joined parts (part ++ rest)
+joined_push [] part rest = append_assoc part [] rest
+joined_push {A} (first ∷ parts) part rest =
+    append_assoc first (flat (parts ++ part ∷ [])) rest
+    ∙ ap (λ (more : List A). first ++ more) (joined_push parts part rest)
+    ∙ sym (append_assoc first (flat parts) (part ++ rest))
 
--- a full piece goes from the bytes that are left to the pieces
-pub piece_moved : (count : ℕ) (made made' : List (List ℕ)) (piece rest more : List ℕ) → made' ≡ made ++ piece ∷ [] → piece ≡ take count rest
+-- a full part goes from the members that are left to the parts
+pub part_moved : {A : Type 0} (count : ℕ) (made made' : List (List A)) (part rest more : List A) → made' ≡ made ++ part ∷ [] → part ≡ take count rest
     → more ≡ drop count rest → joined made' more ≡ joined made rest
-piece_moved count made made' piece rest more pushed front back =
-    let all : piece ++ more ≡ rest = rw (front, back) (take-append-drop count rest) in
-    rw pushed (joined_push made piece more ∙ ap (λ (xs : List ℕ). joined made xs) all)
+part_moved {A} count made made' part rest more pushed front back =
+    let all : part ++ more ≡ rest = rw (front, back) (take-append-drop count rest) in
+    rw pushed (joined_push made part more ∙ ap (λ (xs : List A). joined made xs) all)
 
--- a cut within a piece keeps the pieces before it and its front
-pub cut_in_piece : (size : ℕ) (full : List (List ℕ)) (tail : List ℕ) (at place within : ℕ) (piece kept : List ℕ) → AreWhole size full
-    → place < length full → at ≡ place * size + within → piece ≡ get_or full place piece → within ≤ size
-    → kept ≡ take within piece → joined (take place full) kept ≡ take at (joined full tail)
-cut_in_piece size full tail at place within piece kept whole there here is inside front =
-    let short : within ≤ length piece = omega (arith, ap length is, whole place piece there) in
-    let more : List ℕ = joined (drop (suc place) full) tail in
-    let before : length (flat (take place full)) ≡ place * size = length-front size full place whole (omega arith) in
-    let split : joined full tail ≡ flat (take place full) ++ (piece ++ more) =
-    split_joined full tail place piece there ∙ ap (λ (p : List ℕ). flat (take place full) ++ (p ++ more)) (sym is) in
-    let cut : take at (joined full tail) ≡ joined (take place full) kept =
-    rw (here, ← before, split, take-append-add, front)
-    (ap (λ (xs : List ℕ). flat (take place full) ++ xs) (take-append-le within piece more short)) in
+-- a cut within a part keeps the parts before it and its front
+pub cut_in_part : (parts : List (List ℕ)) (rest : List ℕ) (at place within : ℕ) (part kept : List ℕ) → place < length parts
+    → at ≡ length (flat (take place parts)) + within → part ≡ get_or parts place part → within ≤ length part
+    → kept ≡ take within part → joined (take place parts) kept ≡ take at (joined parts rest)
+cut_in_part parts rest at place within part kept there here is short front_of =
+    let front : List ℕ = flat (take place parts) in
+    let more : List ℕ = flat (drop (suc place) parts) in
+    let split : joined parts rest ≡ front ++ (part ++ (more ++ rest)) =
+    ap (λ (xs : List ℕ). xs ++ rest) (split_flat parts place part there)
+    ∙ append_assoc front (get_or parts place part ++ more) rest
+    ∙ ap (λ (xs : List ℕ). front ++ xs) (append_assoc (get_or parts place part) more rest)
+    ∙ ap (λ (p : List ℕ). front ++ (p ++ (more ++ rest))) (sym is) in
+    let cut : take at (joined parts rest) ≡ joined (take place parts) kept =
+    rw (here, split, take-append-add, front_of)
+    (ap (λ (xs : List ℕ). front ++ xs) (take-append-le within part (more ++ rest) short)) in
     sym cut
 
--- a cut within the tail keeps the pieces and its front
-pub cut_in_tail : (size : ℕ) (full : List (List ℕ)) (tail : List ℕ) (at within : ℕ) (kept : List ℕ) → AreWhole size full
-    → at ≡ length full * size + within → kept ≡ take within tail → joined full kept ≡ take at (joined full tail)
-cut_in_tail size full tail at within kept whole here front =
-    let there : at ≡ length (flat full) + within = omega (arith, length-flat size full whole) in
-    rw (there, front) (sym (take-append-add (flat full) tail within))
+-- a cut behind the first bytes keeps them and cuts the rest
+pub cut_behind : (front bytes : List ℕ) (at within : ℕ) (kept : List ℕ) → at ≡ length front + within → kept ≡ take within bytes → front ++ kept ≡ take at (front ++ bytes)
+cut_behind front bytes at within kept here is = rw (here, is) (sym (take-append-add front bytes within))
+
+-- the pieces of groups and those behind them, as one list
+all_pieces : (groups : List (List (List ℕ))) (pieces : List (List ℕ)) (tail : List ℕ) → joined (joined groups pieces) tail ≡ joined (flat groups) (joined pieces tail)
+all_pieces groups pieces tail =
+    ap (λ (bytes : List ℕ). bytes ++ tail) (flat_map-append (λ (piece : List ℕ). piece) (flat groups) pieces)
+    ∙ append_assoc (flat (flat groups)) (flat pieces) tail
+
+-- pieces that go to the groups stay where they were
+pub bytes_stay : (groups groups' : List (List (List ℕ))) (pieces pieces' : List (List ℕ)) (tail : List ℕ) → joined groups' pieces' ≡ joined groups pieces
+    → joined (flat groups') (joined pieces' tail) ≡ joined (flat groups) (joined pieces tail)
+bytes_stay groups groups' pieces pieces' tail same =
+    sym (all_pieces groups' pieces' tail)
+    ∙ ap (λ (pieces : List (List ℕ)). joined pieces tail) same
+    ∙ all_pieces groups pieces tail
+
+-- all bytes, counted
+pub length-bytes_in : (size : ℕ) (groups : List (List (List ℕ))) (pieces runs : List (List ℕ)) (unshared : List ℕ) → AreWhole size pieces
+    → length (bytes_in groups pieces runs unshared) ≡ length (flat (flat groups)) + (length pieces * size + length (joined runs unshared))
+length-bytes_in size groups pieces runs unshared whole =
+    omega (arith, length-append (flat (flat groups)) (joined pieces (joined runs unshared)), length-joined size pieces (joined runs unshared) whole)
+
+-- parts that are some of the first members
+pub flat_taken : {A : Type 0} (size count : ℕ) (parts : List (List A)) (rest all : List A) → AreWhole size parts → length parts ≡ count → joined parts rest ≡ all
+    → flat parts ≡ take (count * size) all
+flat_taken {A} size count parts rest all whole counted is =
+    let long : length (flat parts) ≡ count * size = length-flat size parts whole ∙ ap (λ (n : ℕ). n * size) counted in
+    rw (← is, ← long) (sym (take-append_seam (flat parts) rest))
+
+-- the bytes before a place in a run or behind all runs
+pub length-first : (parts : List (List ℕ)) (place : ℕ) → length parts ≤ place → length (flat (take place parts)) ≡ length (flat parts)
+length-first parts place past = ap (λ (ps : List (List ℕ)). length (flat ps)) (take_all place parts past)
+
+-- the bytes up to a place in a part are among all bytes
+pub first_within : (parts : List (List ℕ)) (place within : ℕ) (d : List ℕ) → place < length parts → within ≤ length (get_or parts place d)
+    → length (flat (take place parts)) + within ≤ length (flat parts)
+first_within parts place within d there inside =
+    let front : List ℕ = flat (take place parts) in
+    let part : List ℕ = get_or parts place d in
+    let more : List ℕ = flat (drop (suc place) parts) in
+    omega (arith, ap length (split_flat parts place d there), length-append front (part ++ more), length-append part more)
+
+-- a cut within a run keeps the runs before it and its front
+pub cut_at_run : (runs : List (List ℕ)) (unshared : List ℕ) (at place within : ℕ) (run kept : List ℕ) → place < length runs
+    → at ≡ length (flat (take place runs)) + within → run ≡ get_or runs place run → within ≤ length run → kept ≡ take within run
+    → joined (take (place + 1) (set runs place kept)) [] ≡ take at (joined runs unshared)
+cut_at_run runs unshared at place within run kept there here is short front =
+    ap (λ (rs : List (List ℕ)). joined rs []) (take_more_set runs place kept there)
+    ∙ joined_push (take place runs) kept []
+    ∙ ap (λ (xs : List ℕ). joined (take place runs) xs) (append-nil kept)
+    ∙ cut_in_part runs unshared at place within run kept there here is short front
+
+-- a cut within a piece keeps the pieces before it and its front
+pub cut_at_piece : (pieces : List (List ℕ)) (rest : List ℕ) (at place within : ℕ) (piece other kept : List ℕ) → place < length pieces
+    → at ≡ length (flat (take place pieces)) + within → piece ≡ get_or pieces place piece → within ≤ length piece → kept ≡ take within piece
+    → joined (take place (set pieces place other)) kept ≡ take at (joined pieces rest)
+cut_at_piece pieces rest at place within piece other kept there here is short front =
+    ap (λ (ps : List (List ℕ)). joined ps kept) (take-set pieces place other) ∙ cut_in_part pieces rest at place within piece kept there here is short front

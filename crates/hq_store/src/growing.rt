@@ -1,93 +1,210 @@
-//! Bytes that grow at their end, can be cut, and are shared with no copy of their full pieces.
-ghost use Rattle.std.specs.Prelude.{◌≡◌, ◌+◌, ◌^◌, ◌<◌, ◌≤◌, ◌++◌, [], length, take, slice_range, IfOk, OnOk, OnErr};
+//! Bytes that grow at their end, can be cut, and are shared with no copy.
+ghost use Rattle.std.specs.Prelude.{◌≡◌, ◌+◌, ◌-◌, ◌*◌, ◌^◌, ◌<◌, ◌≤◌, ◌++◌, [], length, take, slice_range, vec_capacity, IfOk, OnOk, OnErr};
+ghost use Rattle.hq_store.specs.Pieces.{joined, AreWhole};
 
+use crate::group::Group;
 use crate::mem_seal::MemSeal;
-use crate::pieces::{PIECE, add, cut, read_joined};
+use crate::pieces::{GROUP, PIECE, add_pieces, make_groups};
+use crate::read::read;
+use crate::tail::{close, cut_tail, gather, keep_run};
 use bytes::Bytes;
 use hq_value::NoMemory;
 use std::alloc::Global;
 use std::marker::Model;
+use std::mem;
 
-/// The bytes of a file: full pieces, which seals share, and a tail, which has room for a piece from the start, so
-/// that a cut takes no memory.
+/// The bytes of a file, in order: finished groups of full pieces, full pieces behind them, runs that flushes closed, and
+/// bytes that no seal shares yet. Behind the full pieces are fewer bytes than a piece has. There is room for one run at
+/// least, so that a cut takes no memory, and no cut reaches into a finished group.
 #[derive(Drop)]
 pub(crate) struct GrowingBytes {
     alloc: Global,
-    full: Vec<Bytes>,
-    tail: Vec<u8>,
+    groups: Vec<Group>,
+    pieces: Vec<Bytes>,
+    runs: Vec<Bytes>,
+    unshared: Vec<u8>,
     len: u64,
 }
 
 impl Model for GrowingBytes {
-    ghost use Rattle.std.specs.Prelude.{◌≡◌, ◌^◌, ◌<◌, ◌≤◌, List, ℕ, length, vec_capacity};
-    ghost use Rattle.hq_store.specs.declared.pieces.TheConstants.{PIECE};
-    ghost use Rattle.hq_store.specs.Pieces.{joined, AreWhole};
+    ghost use Rattle.std.specs.Prelude.{◌≡◌, ◌^◌, ◌<◌, length, vec_capacity};
+    ghost use Rattle.hq_store.specs.declared.pieces.TheConstants.{PIECE, GROUP};
+    ghost use Rattle.hq_store.specs.Pieces.{Grown, flat, joined, bytes_in, AreWhole, AreGroups};
 
-    ghost Value = { List ℕ };
+    ghost Value = { Grown };
 
-    ghost view = { λ b. joined b.full.items b.tail.items };
+    ghost view = { λ b. record {
+      bytes = bytes_in b.groups.items b.pieces.items b.runs.items b.unshared.items;
+      fixed = length (flat (flat b.groups.items));
+    } };
 
-    ghost invariant = { λ b. AreWhole PIECE b.full.items × (length b.tail.items < PIECE) × (PIECE ≤ vec_capacity b.tail)
-        × (b.len ≡ length (joined b.full.items b.tail.items)) × (b.len < 2 ^ 64) };
+    ghost invariant = { λ b. AreGroups PIECE GROUP b.groups.items × AreWhole PIECE b.pieces.items
+        × (length (joined b.runs.items b.unshared.items) < PIECE) × (0 < vec_capacity b.runs)
+        × (b.len ≡ length (bytes_in b.groups.items b.pieces.items b.runs.items b.unshared.items)) × (b.len < 2 ^ 64) };
 }
 
 impl GrowingBytes {
-    /// No bytes, and room for a piece.
+    /// No bytes.
     pub(crate) fn new(alloc: Global) -> Result<GrowingBytes, NoMemory>
-        ensures { IfOk result (λ bytes. bytes ≡ []) }
+        ensures { IfOk result (λ new. new ≡ record { bytes = []; fixed = 0 }) }
     {
-        let tail = Vec::with_capacity(alloc, PIECE)?;
+        let runs = Vec::with_capacity(alloc, 1)?;
         Ok(GrowingBytes {
             alloc,
-            full: Vec::new(alloc),
-            tail,
+            groups: Vec::new(alloc),
+            pieces: Vec::new(alloc),
+            runs,
+            unshared: Vec::new(alloc),
             len: 0,
         })
     }
 
     pub(crate) fn len(&self) -> u64
-        ensures value { result ≡ length self.now }
-        ensures bound { length self.now < 2 ^ 64 }
+        ensures value { result ≡ length self.now.bytes }
+        ensures bound { length self.now.bytes < 2 ^ 64 }
     {
         self.len
     }
 
+    // How many bytes lie in finished groups.
+    fn fixed(&self) -> usize
+        ensures value { result ≡ self.now.fixed }
+        ensures within { result ≤ length self.now.bytes }
+    {
+        self.groups.len() * (GROUP * PIECE)
+    }
+
     /// Adds bytes at the end. Without memory nothing changes.
     pub(crate) fn append(&mut self, bytes: &[u8]) -> Result<(), NoMemory>
-        ensures ok { OnOk result (self.new ≡ self.old ++ bytes.now) }
+        ensures ok { OnOk result (self.new ≡ record self.old { bytes = self.old.bytes ++ bytes.now }) }
         ensures err { OnErr result (self.new ≡ self.old) }
     {
         let Some(len) = self.len.checked_add(bytes.len() as u64) else {
             return Err(NoMemory);
         };
-        add(self.alloc, &mut self.full, &mut self.tail, bytes)?;
+        let tail = self.len as usize - self.fixed() - self.pieces.len() * PIECE;
+        add(
+            self.alloc,
+            &mut self.pieces,
+            &mut self.runs,
+            &mut self.unshared,
+            tail,
+            bytes,
+        )?;
         self.len = len;
         Ok(())
     }
 
     /// Keeps the first `len` bytes.
     pub(crate) fn cut(&mut self, len: u64)
-        requires { len ≤ length self.old }
-        ensures { self.new ≡ take len self.old }
+        requires kept { self.old.fixed ≤ len }
+        requires within { len ≤ length self.old.bytes }
+        ensures { self.new ≡ record self.old { bytes = take len self.old.bytes } }
     {
-        cut(&mut self.full, &mut self.tail, len as usize);
+        let at = len as usize - self.fixed();
+        cut(&mut self.pieces, &mut self.runs, &mut self.unshared, at);
         self.len = len;
     }
 
-    /// A seal of these bytes. Only the tail is copied.
-    pub(crate) fn share(&self) -> Result<MemSeal, NoMemory>
-        ensures { IfOk result (λ seal. seal ≡ self.now) }
+    // Makes groups of the full pieces below `sealed`. No byte is copied or changes.
+    fn group_sealed(&mut self, sealed: u64) -> Result<(), NoMemory>
+        requires { self.old.fixed ≤ sealed }
+        ensures bytes { self.new.bytes ≡ self.old.bytes }
+        ensures fixed { self.new.fixed ≤ sealed }
     {
-        let full = self.full.clone()?;
-        let tail = Bytes::copy_from_slice(self.alloc, &self.tail)?;
-        Ok(MemSeal::new(full, tail, self.len))
+        let below = sealed as usize / PIECE - self.groups.len() * GROUP;
+        let count = below.min(self.pieces.len()) / GROUP;
+        if count == 0 {
+            return Ok(());
+        }
+        make_groups(self.alloc, &mut self.groups, &mut self.pieces, count)
+    }
+
+    /// A seal of these bytes. Those below `sealed` are never cut. No byte is copied or changes.
+    pub(crate) fn share(&mut self, sealed: u64) -> Result<MemSeal, NoMemory>
+        requires { self.old.fixed ≤ sealed }
+        ensures seal { IfOk result (λ seal. seal ≡ self.old.bytes) }
+        ensures bytes { self.new.bytes ≡ self.old.bytes }
+        ensures fixed { self.new.fixed ≤ sealed }
+    {
+        self.group_sealed(sealed)?;
+        close(self.alloc, &mut self.runs, &mut self.unshared)?;
+        let groups = self.groups.clone()?;
+        let pieces = self.pieces.clone()?;
+        let runs = self.runs.clone()?;
+        Ok(MemSeal::new(groups, pieces, runs, self.len))
     }
 
     /// Fills `into` with the bytes from `at` on.
     pub(crate) fn read(&self, at: u64, into: &mut [u8])
-        requires { at + length into.old ≤ length self.now }
-        ensures { into.new ≡ slice_range self.now at (at + length into.old) }
+        requires { at + length into.old ≤ length self.now.bytes }
+        ensures { into.new ≡ slice_range self.now.bytes at (at + length into.old) }
     {
-        read_joined(&self.full, &self.tail, at as usize, into);
+        read(
+            &self.groups,
+            &self.pieces,
+            &self.runs,
+            &self.unshared,
+            at as usize,
+            into,
+        );
     }
+}
+
+// Adds bytes behind the finished groups, where `tail` bytes are behind the full pieces. As a piece fills, its runs are
+// gathered into it, so a byte is copied once more at most. Without memory nothing changes.
+fn add(
+    alloc: Global,
+    pieces: &mut Vec<Bytes>,
+    runs: &mut Vec<Bytes>,
+    unshared: &mut Vec<u8>,
+    tail: usize,
+    bytes: &[u8],
+) -> Result<(), NoMemory>
+    requires whole { AreWhole PIECE pieces.old.items }
+    requires tail { tail ≡ length (joined runs.old.items unshared.old.items) }
+    requires short { tail < PIECE }
+    requires room { 0 < vec_capacity runs.old }
+    ensures ok { OnOk result (joined pieces.new.items (joined runs.new.items unshared.new.items) ≡ joined pieces.old.items (joined runs.old.items unshared.old.items) ++ bytes.now) }
+    ensures err { OnErr result (joined pieces.new.items (joined runs.new.items unshared.new.items) ≡ joined pieces.old.items (joined runs.old.items unshared.old.items)) }
+    ensures whole { AreWhole PIECE pieces.new.items }
+    ensures short { length (joined runs.new.items unshared.new.items) < PIECE }
+    ensures room { 0 < vec_capacity runs.new }
+{
+    let room = PIECE - tail;
+    if bytes.len() < room {
+        unshared.extend_from_slice(bytes)?;
+        return Ok(());
+    }
+    let (head, rest) = bytes.split_at(room);
+    let mut made = Vec::new(alloc);
+    made.push(gather(alloc, runs, unshared, head)?)?;
+    let rest = add_pieces(alloc, &mut made, rest)?;
+    let rest = Vec::from_slice(alloc, rest)?;
+    pieces.append(&mut made)?;
+    runs.clear();
+    *unshared = rest;
+    Ok(())
+}
+
+// Keeps the first `at` bytes behind the finished groups.
+fn cut(pieces: &mut Vec<Bytes>, runs: &mut Vec<Bytes>, unshared: &mut Vec<u8>, at: usize)
+    requires whole { AreWhole PIECE pieces.old.items }
+    requires short { length (joined runs.old.items unshared.old.items) < PIECE }
+    requires room { 0 < vec_capacity runs.old }
+    requires within { at ≤ length (joined pieces.old.items (joined runs.old.items unshared.old.items)) }
+    ensures bytes { joined pieces.new.items (joined runs.new.items unshared.new.items) ≡ take at (joined pieces.old.items (joined runs.old.items unshared.old.items)) }
+    ensures whole { AreWhole PIECE pieces.new.items }
+    ensures short { length (joined runs.new.items unshared.new.items) < PIECE }
+    ensures room { 0 < vec_capacity runs.new }
+{
+    let place = at / PIECE;
+    if place < pieces.len() {
+        let mut piece = mem::replace(&mut pieces[place], Bytes::new());
+        piece.truncate(at % PIECE);
+        pieces.truncate(place);
+        keep_run(runs, unshared, piece);
+        return;
+    }
+    cut_tail(runs, unshared, at - pieces.len() * PIECE);
 }

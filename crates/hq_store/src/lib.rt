@@ -1,13 +1,16 @@
 //! A store of files that grow at their end and can be cut.
 #![tactic(auto)]
 
+mod group;
 mod growing;
 mod laws;
 mod mem_file;
 mod mem_seal;
 mod mem_store;
 mod pieces;
+mod read;
 mod store;
+mod tail;
 
 pub use laws::sealed_bytes_stay;
 pub use mem_file::MemFile;

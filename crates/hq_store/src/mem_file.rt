@@ -8,7 +8,7 @@ use hq_value::NoMemory;
 use std::alloc::Global;
 use std::marker::Model;
 
-/// A file in memory. `ready` is the next seal, which a flush made.
+/// A file in memory. `ready` is the next seal, which a flush made. Its finished groups lie under a seal.
 #[derive(Drop)]
 pub struct MemFile {
     bytes: GrowingBytes,
@@ -24,10 +24,10 @@ impl Model for MemFile {
 
     ghost Value = { FileState };
 
-    ghost view = { λ f. record { bytes = f.bytes; sure = f.sure; sealed = f.sealed; flushed = is_some f.ready } };
+    ghost view = { λ f. record { bytes = f.bytes.bytes; sure = f.sure; sealed = f.sealed; flushed = is_some f.ready } };
 
-    ghost invariant = { λ f. (f.sure ≤ length f.bytes) × (f.sealed ≤ f.sure)
-        × ForSome f.ready (λ s. s ≡ f.bytes) };
+    ghost invariant = { λ f. (f.sure ≤ length f.bytes.bytes) × (f.sealed ≤ f.sure) × (f.bytes.fixed ≤ f.sealed)
+        × ForSome f.ready (λ s. s ≡ f.bytes.bytes) };
 }
 
 impl StoredFile for MemFile {
@@ -99,7 +99,7 @@ impl MemFile {
         ensures same { IsSame true self.old self.new }
     {
         self.ready = None;
-        self.ready = Some(self.bytes.share()?);
+        self.ready = Some(self.bytes.share(self.sealed)?);
         Ok(())
     }
 

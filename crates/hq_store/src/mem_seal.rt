@@ -1,8 +1,10 @@
 //! Seals in memory.
-ghost use Rattle.std.specs.Prelude.{◌≡◌, ◌+◌, ◌≤◌, length, slice_range};
-ghost use Rattle.hq_store.specs.Pieces.{joined, AreWhole};
+ghost use Rattle.std.specs.Prelude.{◌≡◌, ◌+◌, ◌^◌, ◌<◌, ◌≤◌, [], length, slice_range};
+ghost use Rattle.hq_store.specs.Pieces.{bytes_in, AreWhole, AreGroups};
 
-use crate::pieces::{PIECE, read_joined};
+use crate::group::Group;
+use crate::pieces::{GROUP, PIECE};
+use crate::read::read;
 use crate::store::SealCopy;
 use bytes::Bytes;
 use hq_value::NoMemory;
@@ -11,30 +13,38 @@ use std::marker::Model;
 /// The bytes under a seal in memory, which its file and its copies share with it.
 #[derive(Drop)]
 pub struct MemSeal {
-    full: Vec<Bytes>,
-    tail: Bytes,
+    groups: Vec<Group>,
+    pieces: Vec<Bytes>,
+    runs: Vec<Bytes>,
     len: u64,
 }
 
 impl Model for MemSeal {
-    ghost use Rattle.std.specs.Prelude.{◌≡◌, ◌^◌, ◌<◌, List, ℕ, length};
-    ghost use Rattle.hq_store.specs.declared.pieces.TheConstants.{PIECE};
-    ghost use Rattle.hq_store.specs.Pieces.{joined, AreWhole};
+    ghost use Rattle.std.specs.Prelude.{◌≡◌, ◌^◌, ◌<◌, List, [], ℕ, length};
+    ghost use Rattle.hq_store.specs.declared.pieces.TheConstants.{PIECE, GROUP};
+    ghost use Rattle.hq_store.specs.Pieces.{bytes_in, AreWhole, AreGroups};
 
     ghost Value = { List ℕ };
 
-    ghost view = { λ s. joined s.full.items s.tail };
+    ghost view = { λ s. bytes_in s.groups.items s.pieces.items s.runs.items [] };
 
-    ghost invariant = { λ s. AreWhole PIECE s.full.items × (s.len ≡ length (joined s.full.items s.tail)) × (s.len < 2 ^ 64) };
+    ghost invariant = { λ s. AreGroups PIECE GROUP s.groups.items × AreWhole PIECE s.pieces.items
+        × (s.len ≡ length (bytes_in s.groups.items s.pieces.items s.runs.items [])) × (s.len < 2 ^ 64) };
 }
 
 impl MemSeal {
-    pub(crate) fn new(full: Vec<Bytes>, tail: Bytes, len: u64) -> MemSeal
-        requires whole { AreWhole PIECE full.items }
-        requires counted { len ≡ length (joined full.items tail) }
-        ensures { result ≡ joined full.items tail }
+    pub(crate) fn new(groups: Vec<Group>, pieces: Vec<Bytes>, runs: Vec<Bytes>, len: u64) -> MemSeal
+        requires groups { AreGroups PIECE GROUP groups.items }
+        requires whole { AreWhole PIECE pieces.items }
+        requires counted { len ≡ length (bytes_in groups.items pieces.items runs.items []) }
+        ensures { result ≡ bytes_in groups.items pieces.items runs.items [] }
     {
-        MemSeal { full, tail, len }
+        MemSeal {
+            groups,
+            pieces,
+            runs,
+            len,
+        }
     }
 
     /// Fills `into` with the bytes from `at` on.
@@ -42,7 +52,14 @@ impl MemSeal {
         requires { at + length into.old ≤ length self.now }
         ensures { into.new ≡ slice_range self.now at (at + length into.old) }
     {
-        read_joined(&self.full, &self.tail, at as usize, into);
+        read(
+            &self.groups,
+            &self.pieces,
+            &self.runs,
+            &[],
+            at as usize,
+            into,
+        );
     }
 }
 
@@ -55,9 +72,10 @@ impl SealCopy for MemSeal {
 
     /// Copies no byte.
     fn copy(&self) -> Result<MemSeal, NoMemory> {
-        let full = self.full.clone()?;
-        let tail = self.tail.clone()?;
-        Ok(MemSeal::new(full, tail, self.len))
+        let groups = self.groups.clone()?;
+        let pieces = self.pieces.clone()?;
+        let runs = self.runs.clone()?;
+        Ok(MemSeal::new(groups, pieces, runs, self.len))
     }
 
     fn len(&self) -> u64 {

@@ -161,7 +161,7 @@ fn has_from(
     at: usize,
     bytes: &[u8],
 ) -> Result<bool, Fail> {
-    for len in [0, 1, 2, 16_384, 20_000] {
+    for len in [0, 1, 2, 4_096, 20_000] {
         let part = bytes.get(at..).and_then(|rest| rest.get(..len));
         if !has_at(alloc, store, seal, at as u64, part.unwrap_or(b"lost"))? {
             return Ok(false);
@@ -174,11 +174,41 @@ fn has_from(
 fn bytes_over_many_pieces_are_read_at_every_alignment(rt: HostRuntime) -> Result<(), Fail> {
     let alloc = rt.alloc();
     let bytes = pattern(alloc, 50_000)?;
-    for part in [999, 16_383, 16_384, 16_385, 40_000] {
+    for part in [999, 4_095, 4_096, 4_097, 40_000] {
         let mut store = MemStore::new(alloc, Vec::new(alloc));
         let seal = sealed_by(&mut store, &bytes, part)?;
         assert_eq!(rt; seal.len(), 50_000);
-        for at in [0, 1, 16_383, 16_384, 16_385, 30_000] {
+        for at in [0, 1, 4_095, 4_096, 4_097, 30_000] {
+            assert!(rt; has_from(alloc, &mut store, &seal, at, &bytes)?);
+        }
+    }
+    Ok(())
+}
+
+// A file of these bytes, sealed behind each part.
+fn sealed_part_by_part(
+    store: &mut MemStore,
+    bytes: &[u8],
+    part: usize,
+) -> Result<MemSeal, StoreFault>
+    requires { 0 < part }
+{
+    let mut file = store.create(ID)?;
+    for part in bytes.chunks(part) {
+        sealed_with(store, &mut file, part)?;
+    }
+    store.flush(&mut file)?;
+    Ok(store.seal(&mut file))
+}
+
+#[test]
+fn bytes_over_many_groups_are_read_at_every_alignment(rt: HostRuntime) -> Result<(), Fail> {
+    let alloc = rt.alloc();
+    let bytes = pattern(alloc, 600_000)?;
+    for part in [1_000, 50_000, 300_000] {
+        let mut store = MemStore::new(alloc, Vec::new(alloc));
+        let seal = sealed_part_by_part(&mut store, &bytes, part)?;
+        for at in [0, 262_143, 262_144, 270_000, 524_287] {
             assert!(rt; has_from(alloc, &mut store, &seal, at, &bytes)?);
         }
     }

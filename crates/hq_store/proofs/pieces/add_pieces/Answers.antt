@@ -1,7 +1,7 @@
 -- One full piece more.
 use Rattle.std.proofs.Common.{◌≡◌, ◌∙◌, ◌++◌, ◌∷◌, [], List, ℕ, length, ap}
 use Rattle.std.proofs.lemmas.List.Elements.{All-push}
-use Rattle.hq_store.proofs.Joined.{piece_moved}
+use Rattle.hq_store.proofs.Joined.{part_moved}
 use Rattle.hq_store.proofs.pieces.add_pieces.Goals as goal
 
 pub loop-rest-preserved : goal.loop-rest-preserved
@@ -9,8 +9,8 @@ loop-rest-preserved c =
     let made : List (List ℕ) = c.loop-rest.made.items in
     let piece : List ℕ = c.in_ok-copy_from_slice.field-0 in
     let pushed : c.push.new.self.items ≡ made ++ piece ∷ [] = c.in_ok-push.ensures.items in
-    let here : length piece ≡ 16384 = ap length c.in_ok-copy_from_slice.ensures ∙ c.split_at.ensures.front_len in (
-      rw pushed (All-push (λ (p : List ℕ). length p ≡ 16384) made piece c.loop-rest.invariant.0 here),
-      piece_moved 16384 made _ piece c.loop-rest.rest.now _ pushed (c.in_ok-copy_from_slice.ensures ∙ c.split_at.ensures.front)
+    let here : length piece ≡ 4096 = ap length c.in_ok-copy_from_slice.ensures ∙ c.split_at.ensures.front_len in (
+      rw pushed (All-push (λ (p : List ℕ). length p ≡ 4096) made piece c.loop-rest.invariant.0 here),
+      part_moved 4096 made _ piece c.loop-rest.rest.now _ pushed (c.in_ok-copy_from_slice.ensures ∙ c.split_at.ensures.front)
           c.split_at.ensures.back ∙ c.loop-rest.invariant.1,
     )

@@ -1,7 +1,7 @@
 -- One run of bytes more.
 use Rattle.std.proofs.Common.{◌∙◌, arith}
 use Rattle.hq_store.proofs.Joined.{read_more}
-use Rattle.hq_store.proofs.pieces.read_joined.Goals as goal
+use Rattle.hq_store.proofs.read.read.Goals as goal
 
 pub loop-done-preserved : goal.loop-done-preserved
 loop-done-preserved c =

@@ -1,0 +1,58 @@
+#!/bin/sh
+# Fills a table in memory with 1,000,000 rows of one INT, by inserts of 100 rows, and scans it, in the proved layers alone:
+# no statement is read, and nothing is sorted or printed. Prints seconds, rows and bytes a second, and the peak memory
+# beside the bytes of the table's files. Where SQLite is installed it is timed over the same rows, as SQL.
+. "$(dirname "$0")/setup.sh"
+layers="$top/crates/hq_bench/out/hq_bench"
+[ -x "$layers" ] || (cd "$top/crates/hq_bench" && rt run -- table 100 10 1 >/dev/null)
+PYTHONPATH="$top/bench" python3 -B - "$work/fill.sql" "$program" "$layers" <<'PYTHON'
+import shutil, subprocess, sys
+from timed import measured
+
+script, program, layers = sys.argv[1:]
+ROWS, SCANS = 1_000_000, 10
+
+
+def file_bytes(at_once):
+    """Each insert adds one block to each of 16 files: 16 bytes, and 9 for each row. Larger shares take more blocks."""
+    shares = [(at_once + 15 - bucket) // 16 for bucket in range(16)]
+    most = (65_536 - 16) // 9
+    blocks = sum(-(-share // most) for share in shares)
+    return ROWS // at_once * (16 * blocks + 9 * at_once)
+
+
+def tell(name, seconds, size):
+    print("%-22s %6.3f s  %11s rows a second  %7.1f MB a second" % (name, seconds, format(int(ROWS / seconds), ","), size / seconds / 1e6))
+
+
+def run(*words):
+    return measured([layers, "table", *map(str, words)], stdout=subprocess.DEVNULL)
+
+
+nothing = run(0, 100, 0)
+for at_once in (100, 10_000):
+    size = file_bytes(at_once)
+    filled, scanned = run(ROWS, at_once, 0), run(ROWS, at_once, SCANS)
+    print("%d rows by inserts of %d: files of %.1f MiB" % (ROWS, at_once, size / 2**20))
+    tell("inserted", filled.seconds - nothing.seconds, size)
+    tell("scanned", (scanned.seconds - filled.seconds) / SCANS, size)
+    grown = (filled.peak - nothing.peak) * 2**20
+    print("the peak grew by %.1f MiB, which is %.2f of the files' bytes" % (grown / 2**20, grown / size))
+
+with open(script, "w") as out:
+    out.write("CREATE TABLE t (a INT);\n")
+    for first in range(0, ROWS, 100):
+        out.write("INSERT INTO t VALUES %s;\n" % ",".join("(%d)" % number for number in range(first, first + 100)))
+print("the same rows as a script of INSERTs of 100")
+tell("hawq", measured([program, "run", script]).seconds, file_bytes(100))
+if shutil.which("sqlite3"):
+    def sqlite(queries):
+        with open(script, "a") as out:
+            out.write("SELECT sum(a) FROM t;\n" * queries)
+        with open(script) as given:
+            return measured(["sqlite3", ":memory:"], stdin=given, stdout=subprocess.DEVNULL)
+
+    filled, scanned = sqlite(0), sqlite(SCANS)
+    tell("sqlite3", filled.seconds, file_bytes(100))
+    tell("sqlite3, SELECT sum(a)", (scanned.seconds - filled.seconds) / SCANS, file_bytes(100))
+PYTHON

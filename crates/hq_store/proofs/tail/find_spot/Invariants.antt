@@ -1,0 +1,7 @@
+-- The runs so far end within the bytes before the place.
+use Rattle.std.proofs.Common.{◌≡◌, ◌+◌, length, take}
+use Rattle.hq_store.specs.Pieces.{flat}
+use Rattle.hq_store.proofs.tail.find_spot.Given as goal
+
+abbrev pub invariant-loop-place : goal.invariant-loop-place
+invariant-loop-place l = l.at ≡ length (flat (take l.place l.runs)) + l.within
