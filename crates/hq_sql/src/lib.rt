@@ -19,3 +19,6 @@ pub use tree::{
     ColumnRefs, Conds, CreateStatement, InsertInput, InsertStatement, Item, Items, Literals, Names,
     OrderBy, OrderKey, OrderKeys, SelectStatement, SourceName, Sources, Statement, Tuples,
 };
+
+#[cfg(test)]
+mod tests;
