@@ -5,15 +5,22 @@
 //!
 //! `hq_bench table ROWS AT_ONCE SCANS` fills a table with rows of one INT, so many by one insert, scans it so often, and
 //! shows how many rows it scanned and how many bytes the store gave for them.
+//!
+//! `hq_bench parse ints|texts|select PARTS TIMES` reads a statement of so many tuples or items so often, and shows how
+//! long its text is.
 #![tactic(auto)]
 
 mod blocks;
+mod parses;
 mod table;
 
 use blocks::Blocks;
+use parses::Parses;
 use std::process::ExitCode;
 use std::{env, io};
 use table::Scans;
+
+const OUT_OF_MEMORY: u8 = 5;
 
 fn main(rt: HostRuntime) -> io::Result<ExitCode> {
     let mut words = Vec::new(rt.alloc());
@@ -26,11 +33,14 @@ fn main(rt: HostRuntime) -> io::Result<ExitCode> {
     if let Some(scans) = Scans::asked(&words) {
         return time_table(&rt, &scans);
     }
-    eprintln!(rt; "usage: hq_bench blocks int|text ROWS WRITES READS | table ROWS AT_ONCE SCANS")?;
+    if let Some(parses) = Parses::asked(&words) {
+        return time_parse(&rt, &parses);
+    }
+    eprintln!(rt; "usage: hq_bench blocks int|text ROWS WRITES READS")?;
+    eprintln!(rt; "       hq_bench table ROWS AT_ONCE SCANS")?;
+    eprintln!(rt; "       hq_bench parse ints|texts|select PARTS TIMES")?;
     Ok(ExitCode::from(2))
 }
-
-const OUT_OF_MEMORY: u8 = 5;
 
 fn time_blocks(rt: &(impl Print + AllocGlobal), blocks: &Blocks) -> io::Result<ExitCode> {
     match blocks.run(rt.alloc()) {
@@ -49,6 +59,16 @@ fn time_table(rt: &(impl Print + AllocGlobal), scans: &Scans) -> io::Result<Exit
     match scans.run(rt.alloc()) {
         Some(done) => {
             println!(rt; "{} rows scanned in {} bytes", done.rows, done.bytes)?;
+            Ok(ExitCode::SUCCESS)
+        }
+        None => Ok(ExitCode::from(OUT_OF_MEMORY)),
+    }
+}
+
+fn time_parse(rt: &(impl Print + AllocGlobal), parses: &Parses) -> io::Result<ExitCode> {
+    match parses.run(rt.alloc()) {
+        Some(bytes) => {
+            println!(rt; "a statement of {bytes} bytes")?;
             Ok(ExitCode::SUCCESS)
         }
         None => Ok(ExitCode::from(OUT_OF_MEMORY)),

@@ -22,3 +22,6 @@ pub use tree::{
     ColumnRefs, Conds, CreateStatement, InsertInput, InsertStatement, Item, Items, Literals, Names,
     OrderBy, OrderKey, OrderKeys, SelectStatement, SourceName, Sources, Statement, Tuples,
 };
+
+#[cfg(test)]
+mod tests;
