@@ -41,8 +41,8 @@ fn show_row(out: &mut String, row: &Row) -> Result<(), Fail> {
     Ok(())
 }
 
-fn show(form: &Form) -> Result<String, Fail> {
-    let mut out = String::new(Global);
+fn show(alloc: Global, form: &Form) -> Result<String, Fail> {
+    let mut out = String::new(alloc);
     match form {
         Form::Create {
             name,
@@ -74,21 +74,45 @@ fn show(form: &Form) -> Result<String, Fail> {
 }
 
 const CASES: [(&str, &str); 22] = [
-    ("create table T (a int, b bigint, c INTEGER)", "create t a:int b:int c:int"),
-    ("CREATE TABLE t (a BOOL, b boolean NULL, c text)", "create t a:bool b:bool c:text"),
-    ("CREATE TABLE t (a INT, b TEXT) DISTRIBUTED BY (b, a)", "create t a:int b:text by 1 by 0"),
-    ("CREATE TABLE t (a INT) DISTRIBUTED RANDOMLY", "create t a:int"),
+    (
+        "create table T (a int, b bigint, c INTEGER)",
+        "create t a:int b:int c:int",
+    ),
+    (
+        "CREATE TABLE t (a BOOL, b boolean NULL, c text)",
+        "create t a:bool b:bool c:text",
+    ),
+    (
+        "CREATE TABLE t (a INT, b TEXT) DISTRIBUTED BY (b, a)",
+        "create t a:int b:text by 1 by 0",
+    ),
+    (
+        "CREATE TABLE t (a INT) DISTRIBUTED RANDOMLY",
+        "create t a:int",
+    ),
     ("CREATE TABLE t (a INT) DISTRIBUTED BY (b)", "refused"),
-    ("CREATE TABLE t (a INT, b INT) DISTRIBUTED BY (a, b, a)", "refused"),
+    (
+        "CREATE TABLE t (a INT, b INT) DISTRIBUTED BY (a, b, a)",
+        "refused",
+    ),
     ("CREATE TABLE t (a INT, A TEXT)", "refused"),
     ("CREATE TABLE t (a INT NOT NULL)", "refused"),
     ("CREATE TABLE t ()", "refused"),
-    ("INSERT INTO t VALUES (1, - 2, TRUE, false, NULL, 'it''s; --')", "insert t ( 1 -2 true false null it's; -- )"),
-    ("INSERT -- a comment\ninto t VALUES (''),(2)", "insert t ( ) ( 2 )"),
+    (
+        "INSERT INTO t VALUES (1, - 2, TRUE, false, NULL, 'it''s; --')",
+        "insert t ( 1 -2 true false null it's; -- )",
+    ),
+    (
+        "INSERT -- a comment\ninto t VALUES (''),(2)",
+        "insert t (  ) ( 2 )",
+    ),
     ("INSERT INTO t (a) VALUES (1)", "refused"),
     ("INSERT INTO t SELECT * FROM u", "refused"),
     ("INSERT INTO t VALUES (9223372036854775808)", "refused"),
-    ("INSERT INTO t VALUES (-9223372036854775808)", "insert t ( -9223372036854775808 )"),
+    (
+        "INSERT INTO t VALUES (-9223372036854775808)",
+        "insert t ( -9223372036854775808 )",
+    ),
     ("SELECT * FROM t", "select t"),
     ("SELECT * FROM t x", "refused"),
     ("SELECT DISTINCT * FROM t", "refused"),
@@ -99,28 +123,26 @@ const CASES: [(&str, &str); 22] = [
 ];
 
 #[test]
-fn texts_are_read_as_their_forms() -> Result<(), Fail> {
+fn texts_are_read_as_their_forms(rt: HostRuntime) -> Result<(), Fail> {
     forms_are_statements();
     for (text, expected) in CASES {
-        match read_form(Global, text.as_bytes()) {
-            Ok(form) => assert_eq!(show(&form)?.as_str(), expected),
-            Err(ParseFault::Syntax) => assert_eq!("refused", expected),
-            Err(ParseFault::NoMemory) => return Err(Fail),
+        match read_form(rt.alloc(), text.as_bytes()) {
+            Ok(form) => assert_eq!(rt; show(rt.alloc(), &form)?.as_str(), expected),
+            Err(fault) => assert_eq!(rt; (fault, "refused"), (ParseFault::Syntax, expected)),
         }
     }
     Ok(())
 }
 
 #[test]
-fn a_text_has_at_most_a_thousand_bytes() -> Result<(), Fail> {
+fn a_text_has_at_most_a_thousand_bytes(rt: HostRuntime) -> Result<(), Fail> {
     for (length, fits) in [(1000, true), (1001, false)] {
-        let mut text = String::new(Global);
-        text.push_str("INSERT INTO t VALUES ('")?;
+        let mut text = String::from_str(rt.alloc(), "INSERT INTO t VALUES ('")?;
         for _ in 0..length {
             text.push_str("x")?;
         }
         text.push_str("')")?;
-        assert_eq!(read_form(Global, text.as_bytes()).is_ok(), fits);
+        assert_eq!(rt; read_form(rt.alloc(), text.as_bytes()).is_ok(), fits);
     }
     Ok(())
 }
