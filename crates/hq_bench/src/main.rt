@@ -8,13 +8,18 @@
 //!
 //! `hq_bench parse ints|texts|select PARTS TIMES` reads a statement of so many tuples or items so often, and shows how
 //! long its text is.
+//!
+//! `hq_bench operators join|group|sort ROWS true|false` makes rows, runs an operator over them or not, and shows how
+//! many rows that gave.
 #![tactic(auto)]
 
 mod blocks;
+mod operators;
 mod parses;
 mod table;
 
 use blocks::Blocks;
+use operators::Operators;
 use parses::Parses;
 use std::process::ExitCode;
 use std::{env, io};
@@ -36,9 +41,13 @@ fn main(rt: HostRuntime) -> io::Result<ExitCode> {
     if let Some(parses) = Parses::asked(&words) {
         return time_parse(&rt, &parses);
     }
+    if let Some(operators) = Operators::asked(&words) {
+        return time_operators(&rt, operators);
+    }
     eprintln!(rt; "usage: hq_bench blocks int|text ROWS WRITES READS")?;
     eprintln!(rt; "       hq_bench table ROWS AT_ONCE SCANS")?;
     eprintln!(rt; "       hq_bench parse ints|texts|select PARTS TIMES")?;
+    eprintln!(rt; "       hq_bench operators join|group|sort ROWS true|false")?;
     Ok(ExitCode::from(2))
 }
 
@@ -69,6 +78,16 @@ fn time_parse(rt: &(impl Print + AllocGlobal), parses: &Parses) -> io::Result<Ex
     match parses.run(rt.alloc()) {
         Some(bytes) => {
             println!(rt; "a statement of {bytes} bytes")?;
+            Ok(ExitCode::SUCCESS)
+        }
+        None => Ok(ExitCode::from(OUT_OF_MEMORY)),
+    }
+}
+
+fn time_operators(rt: &(impl Print + AllocGlobal), operators: Operators) -> io::Result<ExitCode> {
+    match operators.run(rt.alloc()) {
+        Some(rows) => {
+            println!(rt; "{rows} rows")?;
             Ok(ExitCode::SUCCESS)
         }
         None => Ok(ExitCode::from(OUT_OF_MEMORY)),
