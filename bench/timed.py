@@ -21,5 +21,5 @@ def measured(words, **where):
 
 def timed(name, words, **where):
     took = measured(words, **where)
-    print("%-8s %7.3f s  %7.1f MiB at the peak  status %d" % (name, took.seconds, took.peak, took.status))
+    print("%-8s %7.3f s, %7.3f s of the processor  %7.1f MiB at the peak  status %d" % (name, *took))
     return took.seconds
