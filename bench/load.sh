@@ -1,7 +1,7 @@
 #!/bin/sh
 # Times loads of 200,000 rows of three INTs and of 1,000,000 rows of one, by INSERTs of 100 rows, alone and with a SELECT
-# of all, in the proved program and, where it is installed, in SQLite in memory. Prints the seconds, the peak memory in MiB,
-# and rows a second.
+# of all, in the proved program and, where it is installed, in SQLite in memory. Prints the seconds, those of the processor,
+# the peak memory in MiB, and rows a second.
 . "$(dirname "$0")/setup.sh"
 PYTHONPATH="$top/bench" python3 -B - "$work/load.sql" "$program" <<'PYTHON'
 import random, shutil, subprocess, sys

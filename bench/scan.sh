@@ -1,7 +1,8 @@
 #!/bin/sh
-# Fills a table in memory with 1,000,000 rows of one INT, by inserts of 100 rows, and scans it, in the proved layers alone:
-# no statement is read, and nothing is sorted or printed. Prints seconds, rows and bytes a second, and the peak memory
-# beside the bytes of the table's files. Where SQLite is installed it is timed over the same rows, as SQL.
+# Fills a table in memory with 1,000,000 rows of one INT, by inserts of 100 or of 10,000 rows, and scans it, in the proved
+# layers alone: no statement is read, and nothing is sorted or printed. Prints processor seconds, rows and bytes a second,
+# and the peak memory beside the bytes of the table's files. Then the same rows as a script, in the program and, where it
+# is installed, in SQLite in memory.
 . "$(dirname "$0")/setup.sh"
 layers="$top/crates/hq_bench/out/hq_bench"
 [ -x "$layers" ] || (cd "$top/crates/hq_bench" && rt run -- table 100 10 1 >/dev/null)
@@ -34,8 +35,8 @@ for at_once in (100, 10_000):
     size = file_bytes(at_once)
     filled, scanned = run(ROWS, at_once, 0), run(ROWS, at_once, SCANS)
     print("%d rows by inserts of %d: files of %.1f MiB" % (ROWS, at_once, size / 2**20))
-    tell("inserted", filled.seconds - nothing.seconds, size)
-    tell("scanned", (scanned.seconds - filled.seconds) / SCANS, size)
+    tell("inserted", filled.processor - nothing.processor, size)
+    tell("scanned", (scanned.processor - filled.processor) / SCANS, size)
     grown = (filled.peak - nothing.peak) * 2**20
     print("the peak grew by %.1f MiB, which is %.2f of the files' bytes" % (grown / 2**20, grown / size))
 
@@ -44,7 +45,7 @@ with open(script, "w") as out:
     for first in range(0, ROWS, 100):
         out.write("INSERT INTO t VALUES %s;\n" % ",".join("(%d)" % number for number in range(first, first + 100)))
 print("the same rows as a script of INSERTs of 100")
-tell("hawq", measured([program, "run", script]).seconds, file_bytes(100))
+tell("hawq", measured([program, "run", script]).processor, file_bytes(100))
 if shutil.which("sqlite3"):
     def sqlite(queries):
         with open(script, "a") as out:
@@ -53,6 +54,6 @@ if shutil.which("sqlite3"):
             return measured(["sqlite3", ":memory:"], stdin=given, stdout=subprocess.DEVNULL)
 
     filled, scanned = sqlite(0), sqlite(SCANS)
-    tell("sqlite3", filled.seconds, file_bytes(100))
-    tell("sqlite3, SELECT sum(a)", (scanned.seconds - filled.seconds) / SCANS, file_bytes(100))
+    tell("sqlite3", filled.processor, file_bytes(100))
+    tell("sqlite3, SELECT sum(a)", (scanned.processor - filled.processor) / SCANS, file_bytes(100))
 PYTHON
