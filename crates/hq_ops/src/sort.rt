@@ -1,16 +1,25 @@
 //! Rows in order.
-ghost use Rattle.std.specs.Prelude.{◌≡◌, false, OnOk};
+ghost use Rattle.std.specs.Prelude.{◌≡◌, ◌∷◌, false, map, IfOk};
 ghost use Rattle.hq_value.specs.Order.{value_cmp};
 ghost use Rattle.hq_algebra.specs.Eval.{column};
 ghost use Rattle.hq_meaning.specs.Rows.{key_cmp, order_cmp, ordered};
 ghost use Rattle.hq_meaning.specs.Operators.{sorted};
 ghost use Rattle.hq_ops.specs.Ends.{Gives, IsNumericAt};
+ghost use Rattle.hq_ops.specs.Keyed.{with_key, first_cmp, keyed_cmp};
 
 use crate::OpEnd;
+use crate::groups::copy_column;
 use hq_algebra::{SortKey, SortKeys};
-use hq_value::{NoMemory, Row, Value, compare_rows, compare_values};
+use hq_value::{NoMemory, Row, Value, compare_rows, compare_values, sort_in_row_order};
 use std::alloc::Global;
 use std::cmp::Ordering;
+
+/// A row beside the value by which it is sorted first, so that most comparisons read no row.
+#[derive(Drop)]
+struct Keyed {
+    first: Value,
+    row: Row,
+}
 
 /// The rows by the keys, each ascending, or descending in the reverse of value order, so with NULL first. Ties go by
 /// row order. Where there is a limit, so many of the first.
@@ -18,9 +27,9 @@ pub fn sort_rows(order: &SortKeys, limit: Option<u64>, rows: Vec<Row>) -> OpEnd
     ensures rows { Gives result (sorted order.now limit rows.items) }
     ensures numeric { IsNumericAt result false }
 {
-    let mut rows = rows;
-    match sort(order.as_slice(), &mut rows) {
-        Ok(()) => {
+    match sort(order.as_slice(), rows) {
+        Ok(rows) => {
+            let mut rows = rows;
             if let Some(limit) = limit {
                 rows.truncate(limit as usize);
             }
@@ -30,12 +39,68 @@ pub fn sort_rows(order: &SortKeys, limit: Option<u64>, rows: Vec<Row>) -> OpEnd
     }
 }
 
-fn sort(order: &[SortKey], rows: &mut Vec<Row>) -> Result<(), NoMemory>
-    ensures { OnOk result (rows.new.items ≡ ordered order.now rows.old.items) }
+fn sort(order: &[SortKey], rows: Vec<Row>) -> Result<Vec<Row>, NoMemory>
+    ensures { IfOk result (λ found. found.items ≡ ordered order.now rows.items) }
 {
-    match rows.sort_by(|a: &Row, b: &Row| compare_in_order(order, a, b)) {
-        Ok(()) => Ok(()),
-        Err(_) => Err(NoMemory),
+    match order {
+        [first, rest @ ..] => sort_by_keys(*first, rest, rows),
+        [] => {
+            let mut rows = rows;
+            sort_in_row_order(&mut rows)?;
+            Ok(rows)
+        }
+    }
+}
+
+fn sort_by_keys(first: SortKey, rest: &[SortKey], rows: Vec<Row>) -> Result<Vec<Row>, NoMemory>
+    ensures { IfOk result (λ found. found.items ≡ ordered (first ∷ rest.now) rows.items) }
+{
+    let alloc = *rows.allocator();
+    let mut keyed = with_keys(alloc, first.column, rows)?;
+    keyed.sort_by(|a: &Keyed, b: &Keyed| compare_keyed(first, rest, a, b))?;
+    rows_of(alloc, keyed)
+}
+
+fn with_keys(alloc: Global, place: u16, rows: Vec<Row>) -> Result<Vec<Keyed>, NoMemory>
+    ensures { IfOk result (λ keyed. keyed.items ≡ map (with_key place) rows.items) }
+{
+    let mut keyed = Vec::with_capacity(alloc, rows.len())?;
+    for row in rows {
+        let first = copy_column(alloc, &row, place as usize)?;
+        keyed.push(Keyed { first, row })?;
+    }
+    Ok(keyed)
+}
+
+fn rows_of(alloc: Global, keyed: Vec<Keyed>) -> Result<Vec<Row>, NoMemory>
+    ensures { IfOk result (λ rows. rows.items ≡ map (λ k. k.row) keyed.items) }
+{
+    let mut rows = Vec::with_capacity(alloc, keyed.len())?;
+    for one in keyed {
+        let Keyed { first, row } = one;
+        drop(first);
+        rows.push(row)?;
+    }
+    Ok(rows)
+}
+
+fn compare_keyed(first: SortKey, rest: &[SortKey], a: &Keyed, b: &Keyed) -> Ordering
+    ensures { result ≡ keyed_cmp first rest.now a.now b.now }
+{
+    let found = compare_firsts(first, a, b);
+    if found.is_ne() {
+        return found;
+    }
+    compare_in_order(rest, &a.row, &b.row)
+}
+
+fn compare_firsts(key: SortKey, a: &Keyed, b: &Keyed) -> Ordering
+    ensures { result ≡ first_cmp key a.now b.now }
+{
+    if key.descending {
+        compare_values(&b.first, &a.first)
+    } else {
+        compare_values(&a.first, &b.first)
     }
 }
 
