@@ -8,23 +8,14 @@ top=$(cd "$(dirname "$0")/.." && pwd)
 program="$top/crates/hq_bench/out/hq_bench"
 [ -x "$program" ] || (cd "$top/crates/hq_bench" && rt run -- blocks int 100 3 3 >/dev/null)
 python3 - "$program" <<'PYTHON'
-import re, resource, shutil, subprocess, sys
-
-def used():
-    children = resource.getrusage(resource.RUSAGE_CHILDREN)
-    return children.ru_utime + children.ru_stime
-
-def seconds(*words):
-    start = used()
-    subprocess.run([sys.argv[1], "operators", *map(str, words)], check=True, stdout=subprocess.DEVNULL)
-    return used() - start
+import re, shutil, subprocess, sys
 
 def best(times):
     return min(times() for _ in range(3))
 
 def ours(kind, rows):
-    made = best(lambda: seconds(kind, rows, "false"))
-    return best(lambda: seconds(kind, rows, "true")) - made
+    told = subprocess.run([sys.argv[1], "operators", kind, str(rows)], check=True, capture_output=True, text=True).stdout
+    return int(re.search(r"in ([0-9]+) microseconds", told).group(1)) / 1e6
 
 NUMBERS = "WITH RECURSIVE n(i) AS (SELECT 0 UNION ALL SELECT i + 1 FROM n WHERE i < %d) "
 MAKE = "CREATE TABLE %s (k INT, v INT); " + NUMBERS + "INSERT INTO %s SELECT %s, i FROM n;\n"
@@ -44,7 +35,7 @@ def theirs(make, select):
     return sum(map(float, re.search(r"user ([0-9.]+) sys ([0-9.]+)", told).groups()))
 
 for kind, (rows, read, make, select) in CASES.items():
-    took = {"hawq": ours(kind, rows)}
+    took = {"hawq": best(lambda: ours(kind, rows))}
     if shutil.which("sqlite3"):
         took["sqlite3"] = best(lambda: theirs(make, select))
     for name, time_taken in took.items():

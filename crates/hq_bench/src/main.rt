@@ -9,8 +9,8 @@
 //! `hq_bench parse ints|texts|select PARTS TIMES` reads a statement of so many tuples or items so often, and shows how
 //! long its text is.
 //!
-//! `hq_bench operators join|group|sort ROWS true|false` makes rows, runs an operator over them or not, and shows how
-//! many rows that gave.
+//! `hq_bench operators join|group|sort ROWS` runs an operator over so many rows, and shows how many rows it gave and the
+//! processor time that it took.
 #![tactic(auto)]
 
 mod blocks;
@@ -22,6 +22,7 @@ use blocks::Blocks;
 use operators::Operators;
 use parses::Parses;
 use std::process::ExitCode;
+use std::time::CpuClock;
 use std::{env, io};
 use table::Scans;
 
@@ -47,7 +48,7 @@ fn main(rt: HostRuntime) -> io::Result<ExitCode> {
     eprintln!(rt; "usage: hq_bench blocks int|text ROWS WRITES READS")?;
     eprintln!(rt; "       hq_bench table ROWS AT_ONCE SCANS")?;
     eprintln!(rt; "       hq_bench parse ints|texts|select PARTS TIMES")?;
-    eprintln!(rt; "       hq_bench operators join|group|sort ROWS true|false")?;
+    eprintln!(rt; "       hq_bench operators join|group|sort ROWS")?;
     Ok(ExitCode::from(2))
 }
 
@@ -84,10 +85,17 @@ fn time_parse(rt: &(impl Print + AllocGlobal), parses: &Parses) -> io::Result<Ex
     }
 }
 
-fn time_operators(rt: &(impl Print + AllocGlobal), operators: Operators) -> io::Result<ExitCode> {
-    match operators.run(rt.alloc()) {
-        Some(rows) => {
-            println!(rt; "{rows} rows")?;
+fn time_operators(
+    rt: &(impl Print + AllocGlobal + CpuClock),
+    operators: Operators,
+) -> io::Result<ExitCode> {
+    match operators.run(rt, rt.alloc()) {
+        Some(done) => {
+            println!(rt;
+                "{} rows in {} microseconds",
+                done.rows,
+                done.took.as_micros()
+            )?;
             Ok(ExitCode::SUCCESS)
         }
         None => Ok(ExitCode::from(OUT_OF_MEMORY)),

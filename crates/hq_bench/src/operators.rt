@@ -3,13 +3,20 @@ use hq_algebra::{Aggregate, Expr, Keys16, SortKey};
 use hq_ops::{OpEnd, final_rows, join_rows, partial_rows, sort_rows};
 use hq_value::{NoMemory, Row, Sequence, Value};
 use std::alloc::Global;
+use std::time::{CpuClock, Duration};
 
-/// An operator, over how many rows, and whether it is run or the rows are only made.
+/// An operator, and over how many rows it is run.
 #[derive(Clone, Copy, Debug)]
 pub struct Operators {
     kind: Kind,
     rows: u32,
-    runs: bool,
+}
+
+/// How many rows an operator gave, and the processor time that it took.
+#[derive(Clone, Copy, Debug)]
+pub struct Timed {
+    pub rows: usize,
+    pub took: Duration,
 }
 
 #[derive(Clone, Copy, Debug)]
@@ -82,7 +89,7 @@ fn counted(end: OpEnd) -> Option<usize> {
 impl Operators {
     /// What the words ask for.
     pub fn asked(words: &[String]) -> Option<Operators> {
-        let [layer, kind, rows, runs] = words else {
+        let [layer, kind, rows] = words else {
             return None;
         };
         if layer.as_str() != "operators" {
@@ -91,48 +98,45 @@ impl Operators {
         Some(Operators {
             kind: kind_named(kind)?,
             rows: rows.parse().ok()?,
-            runs: runs.parse().ok()?,
         })
     }
 
-    /// How many rows the operator gives, or how many were made for it. None without memory.
-    pub fn run(&self, alloc: Global) -> Option<usize> {
+    /// What the operator gave and took. None without memory, or where the clock doesn't tell.
+    pub fn run<R: CpuClock>(&self, rt: &R, alloc: Global) -> Option<Timed> {
         match self.kind {
-            Kind::Join => self.join(alloc),
-            Kind::Group => self.group(alloc),
-            Kind::Sort => self.sort(alloc),
+            Kind::Join => self.join(rt, alloc),
+            Kind::Group => self.group(rt, alloc),
+            Kind::Sort => self.sort(rt, alloc),
         }
     }
 
-    fn join(&self, alloc: Global) -> Option<usize> {
+    fn join<R: CpuClock>(&self, rt: &R, alloc: Global) -> Option<Timed> {
         let left = rows_in_order(alloc, self.rows).ok()?;
         let right = mixed_rows(alloc, self.kind, self.rows).ok()?;
         let keys = first_column(alloc).ok()?;
-        if !self.runs {
-            return Some(left.len().max(right.len()));
-        }
-        counted(join_rows(alloc, left.as_slice(), right.as_slice(), &keys, &keys))
+        let start = rt.process_cpu_time().ok()?;
+        let end = join_rows(alloc, left.as_slice(), right.as_slice(), &keys, &keys);
+        ended(rt, start, end)
     }
 
-    fn group(&self, alloc: Global) -> Option<usize> {
+    fn group<R: CpuClock>(&self, rt: &R, alloc: Global) -> Option<Timed> {
         let rows = mixed_rows(alloc, self.kind, self.rows).ok()?;
         let keys = first_column(alloc).ok()?;
         let mut aggregates = Sequence::new(alloc);
         aggregates.push(Aggregate::CountAll).ok()?;
         aggregates.push(Aggregate::Sum(Expr::Column(1))).ok()?;
-        if !self.runs {
-            return Some(rows.len());
-        }
+        let start = rt.process_cpu_time().ok()?;
         match partial_rows(alloc, &keys, &aggregates, rows.as_slice()) {
             OpEnd::Rows(partial) => {
-                counted(final_rows(alloc, 1, &aggregates, partial.as_slice()))
+                let end = final_rows(alloc, 1, &aggregates, partial.as_slice());
+                ended(rt, start, end)
             }
             OpEnd::Numeric => None,
             OpEnd::NoMemory => None,
         }
     }
 
-    fn sort(&self, alloc: Global) -> Option<usize> {
+    fn sort<R: CpuClock>(&self, rt: &R, alloc: Global) -> Option<Timed> {
         let rows = mixed_rows(alloc, self.kind, self.rows).ok()?;
         let mut order = Sequence::new(alloc);
         order
@@ -141,9 +145,15 @@ impl Operators {
                 descending: false,
             })
             .ok()?;
-        if !self.runs {
-            return Some(rows.len());
-        }
-        counted(sort_rows(&order, None, rows))
+        let start = rt.process_cpu_time().ok()?;
+        let end = sort_rows(&order, None, rows);
+        ended(rt, start, end)
     }
+}
+
+// What an operator gave, and the time since it began.
+fn ended<R: CpuClock>(rt: &R, start: Duration, end: OpEnd) -> Option<Timed> {
+    let took = rt.process_cpu_time().ok()?.checked_sub(start)?;
+    let rows = counted(end)?;
+    Some(Timed { rows, took })
 }
