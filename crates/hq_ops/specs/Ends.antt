@@ -1,6 +1,7 @@
 -- How operators end.
 --     Gives end rows            the rows, unless there was a fault or no memory
 --     IsNumericAt end faults    Numeric comes where an evaluation faults, and nowhere else
+--     IsGiven end               rows are given, whatever memory there is
 --     StopsAt result faults     the same of a step of an operator
 use Rattle.std.specs.Prelude.{◌≡◌, Bool, true, false, List, Result, Ok, Err}
 use Rattle.hq_value.specs.declared.value.Value.{Value}
@@ -20,6 +21,11 @@ abbrev pub IsNumericAt : OpEnd → Bool → Type 0
 IsNumericAt (end.Rows found) faults = faults ≡ false
 IsNumericAt end.Numeric faults = faults ≡ true
 IsNumericAt end.NoMemory faults = Unit {0}
+
+-- rows are given, whatever memory there is
+abbrev pub IsGiven : OpEnd → Type 0
+IsGiven (end.Rows found) = Unit {0}
+IsGiven _ = ⊥
 
 -- the same of a step of an operator
 abbrev pub StopsAt : {T : Type 0} → Result T Stop → Bool → Type 0

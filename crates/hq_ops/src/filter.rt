@@ -2,17 +2,19 @@
 ghost use Rattle.std.specs.Prelude.{◌≡◌, false};
 ghost use Rattle.hq_algebra.specs.Eval.{is_true_at};
 ghost use Rattle.hq_meaning.specs.Operators.{filtered};
-ghost use Rattle.hq_ops.specs.Ends.{Gives, IsNumericAt};
+ghost use Rattle.hq_ops.specs.Ends.{Gives, IsNumericAt, IsGiven};
 
 use crate::OpEnd;
 use hq_algebra::{Evaluated, Expr, eval};
 use hq_value::{Row, Value};
 use std::alloc::Global;
 
-/// The rows at which the condition is true, in order. Takes no memory but for a text that the condition computes.
+/// The rows at which the condition is true, in order. They are given whatever memory there is: none is taken but for a
+/// text that the condition computes, and a text is not true.
 pub fn filter_rows(alloc: Global, cond: &Expr, rows: Vec<Row>) -> OpEnd
     ensures rows { Gives result (filtered cond.now rows.items) }
     ensures numeric { IsNumericAt result false }
+    ensures given { IsGiven result }
 {
     let mut rows = rows;
     rows.retain(|row| is_true(alloc, cond, row));
