@@ -12,7 +12,7 @@ use Rattle.hq_io.specs.declared.gather.Stop.TheVariants as stops
 use Rattle.hq_io.specs.Told.{IfTold}
 use Rattle.hq_io.specs.Counted.{Counted}
 use Rattle.hq_io.specs.Pieces.{is_blank}
-use Rattle.hq_io.specs.Reading.{Reading, ahead, ahead_of, pieces_given, Cuts, PassesLimit, GivesAll, Ends, EndsNone, Breaks}
+use Rattle.hq_io.specs.Reading.{Reading, ahead, ahead_of, pieces_given, Cuts, PassesLimit, GivesPiece, TakesMost, Ends, EndsNone, Breaks}
 use Rattle.hq_io.specs.Scanning.{Passes, is_outside}
 use Rattle.hq_io.specs.Gathering.{Gathered, GatheredOutside, EndsNoPiece, Stopped, Uncut, kind_of, is_rest}
 use Rattle.hq_io.specs.declared.place.Place.{Place}
@@ -126,21 +126,6 @@ advance-cuts k stop old new (Some bytes) left' live over is s n =
       ended = λ e. subst (λ each. Ends (pieces_given each new.text) (old.held ++ bytes) told.ys) (sym is) (told.ends (sym over ∙ e));
     })
 
-some-piece : (k : Kind) (text : List ℕ) → k ≢ kinds.End → k ≢ kinds.Limit → (ps : List Piece) → 0 < length (pieces_given k text ++ ps)
-some-piece kinds.Statement text e l ps = omega arith
-some-piece kinds.TooLong text e l ps = omega arith
-some-piece kinds.Unended text e l ps = omega arith
-some-piece kinds.End text e l ps = absurd (e refl)
-some-piece kinds.Limit text e l ps = absurd (l refl)
-
-over-bytes : (xs : List ℕ) (after : Option (List ℕ)) (text : List ℕ) (before now : ℕ) → Stopped stops.Limit (Some xs) after text before now → 2 ^ 32 < before + length xs
-over-bytes xs None text before now s = absurd s.0.2
-over-bytes xs (Some ys) text before now s = omega (arith, s.0.3, s.1, s.2, ap length s.0.2, length-append s.0.0 ys)
-
-none-more : (xs : List ℕ) (after : Option (List ℕ)) (text : List ℕ) (before now : ℕ) → Stopped stops.Limit (Some xs) after text before now → (rest : List ℕ) × EndsNone xs rest × (before + length xs ≡ 2 ^ 32 + length rest)
-none-more xs None text before now s = absurd s.0.2
-none-more xs (Some ys) text before now s = (ys, record { bytes = s.0.0; taken = s.0.2; none = ended-none s.0.0 s.0.1 }, omega (arith, s.0.3, s.2, ap length s.0.2, length-append s.0.0 ys))
-
 blank-limit : (b : Bool) → cond b kinds.End kinds.Unended ≡ kinds.Limit → ⊥
 blank-limit true e = cc
 blank-limit false e = cc
@@ -157,22 +142,6 @@ limit-is (stops.Rest true) text e = absurd (cc)
 limit-is (stops.Rest false) text e = absurd (blank-limit (is_blank text) e)
 limit-is stops.Limit text e = refl
 
-pub advance-limit : (result : Kind) (stop : Stop) (old : Reading) (left after : Option (List ℕ)) (text : List ℕ) (now count count' : ℕ) → old.ended ≡ false → old.pieces ≡ count → Counted (kind_of stop text) result count count' → Stopped stop (prepend_known old.held left) after text old.taken now → result ≡ kinds.Limit → IfSome (ahead old left) (PassesLimit old)
-advance-limit result stop old None after text now count count' live same c s e = rw live tt
-advance-limit result stop old (Some bytes) after text now count count' live same (inl p) s e =
-    let is : stop ≡ stops.Limit = limit-is stop text (sym p.0 ∙ e) in
-    rw live (inr (over-bytes _ after text _ now (rw is at s)))
-advance-limit result stop old (Some bytes) after text now count count' live same (inr p) s e =
-    let told : Told stop (old.held ++ bytes) after text old.taken now = cut-told stop _ _ _ _ _ s p.2 in
-    rw live (inl (same ∙ p.3, rw told.pieces (some-piece (kind_of stop text) text p.1 p.2 _)))
-
-pub advance-gives : (result : Kind) (stop : Stop) (old : Reading) (left after : Option (List ℕ)) (text : List ℕ) (now count count' : ℕ) → old.ended ≡ false → old.pieces ≡ count → Counted (kind_of stop text) result count count' → Stopped stop (prepend_known old.held left) after text old.taken now → result ≡ kinds.Limit → IfSome (ahead old left) (GivesAll old)
-advance-gives result stop old None after text now count count' live same c s e = rw live tt
-advance-gives result stop old (Some bytes) after text now count count' live same (inl p) s e =
-    let is : stop ≡ stops.Limit = limit-is stop text (sym p.0 ∙ e) in
-    rw live (inr (none-more _ after text _ now (rw is at s)))
-advance-gives result stop old (Some bytes) after text now count count' live same (inr p) s e = rw live (inl (same ∙ p.3))
-
 pub advance-breaks : (old new : Reading) (left left' : Option (List ℕ)) → old.ended ≡ false → new.held ≡ [] → Uncut (prepend_known old.held left) (prepend_known new.held left') old.taken new.taken → IfTold (ahead old left) left' (Breaks old new)
 advance-breaks old new None left' live none u = rw live tt
 advance-breaks old new (Some bytes) None live none u = absurd u.2
@@ -182,3 +151,40 @@ advance-breaks old new (Some bytes) (Some ys) live none u =
       taken = omega (arith, u.3, ap length taken, length-append u.0 ys);
       none = record { bytes = u.0; taken = taken; none = ended-none u.0 u.1 };
     })
+
+one-piece : (k : Kind) (text : List ℕ) → k ≢ kinds.End → k ≢ kinds.Limit → (piece : Piece) × (pieces_given k text ≡ piece ∷ [])
+one-piece kinds.Statement text e l = (_, refl)
+one-piece kinds.TooLong text e l = (_, refl)
+one-piece kinds.Unended text e l = (_, refl)
+one-piece kinds.End text e l = absurd (e refl)
+one-piece kinds.Limit text e l = absurd (l refl)
+
+some-after : (held : List ℕ) (left : Option (List ℕ)) (xs text : List ℕ) (before now : ℕ) → Stopped stops.Limit (Some xs) (prepend_known held left) text before now → (ys : List ℕ) × (prepend_known held left ≡ Some ys)
+some-after held None xs text before now s = absurd s.0.2
+some-after held (Some zs) xs text before now s = (held ++ zs, refl)
+
+takes-most : (old new : Reading) (xs ys text : List ℕ) → new.ended ≡ false → 0 < length new.held → Stopped stops.Limit (Some xs) (Some ys) text old.taken new.taken → TakesMost old new xs ys
+takes-most old new xs ys text going more s = record {
+  none = record { bytes = s.0.0; taken = s.0.2; none = ended-none s.0.0 s.0.1 };
+  taken = omega (arith, s.0.3, ap length s.0.2, length-append s.0.0 ys);
+  most = s.2;
+  more = more;
+  going = going;
+}
+
+pub advance-limit : (result : Kind) (stop : Stop) (old new : Reading) (left left' : Option (List ℕ)) (count count' : ℕ) → old.ended ≡ false → new.ended ≡ is_rest stop → old.pieces ≡ count → (stop ≡ stops.Limit → 0 < length new.held) → Counted (kind_of stop new.text) result count count' → Stopped stop (prepend_known old.held left) (prepend_known new.held left') new.text old.taken new.taken → result ≡ kinds.Limit → IfTold (ahead old left) (ahead new left') (PassesLimit old new)
+advance-limit result stop old new None left' count count' live over same more c s e = rw live tt
+advance-limit result stop old new (Some bytes) left' count count' live over same more (inl p) s e =
+    let is : stop ≡ stops.Limit = limit-is stop new.text (sym p.0 ∙ e) in
+    let s' : Stopped stops.Limit (Some (old.held ++ bytes)) (prepend_known new.held left') new.text old.taken new.taken = rw is at s in
+    let found = some-after new.held left' _ new.text _ _ s' in
+    let going : new.ended ≡ false = over ∙ ap is_rest is in
+    let now : ahead new left' ≡ Some found.0 = ap (λ b. ahead_of b new.held left') going ∙ found.1 in
+    let before : ahead old (Some bytes) ≡ Some (old.held ++ bytes) = ap (λ b. ahead_of b old.held (Some bytes)) live in
+    told-both (PassesLimit old new) before now (inr (takes-most old new _ _ new.text going (more is) (subst (λ after. Stopped stops.Limit (Some (old.held ++ bytes)) after new.text old.taken new.taken) found.1 s')))
+advance-limit result stop old new (Some bytes) left' count count' live over same more (inr p) s e =
+    let told : Told stop (old.held ++ bytes) (prepend_known new.held left') new.text old.taken new.taken = cut-told stop _ _ _ _ _ s p.2 in
+    let now : ahead new left' ≡ Some told.ys = ap (λ b. ahead_of b new.held left') over ∙ ahead-some (is_rest stop) new.held left' told.ys told.some told.end in
+    let before : ahead old (Some bytes) ≡ Some (old.held ++ bytes) = ap (λ b. ahead_of b old.held (Some bytes)) live in
+    let one = one-piece (kind_of stop new.text) new.text p.1 p.2 in
+    told-both (PassesLimit old new) before now (inl (same ∙ p.3, (one.0, told.pieces ∙ ap (λ ps. ps ++ pieces_of told.ys) one.1, λ n. subst (λ ps. Ends ps (old.held ++ bytes) told.ys) one.1 (told.ends (sym over ∙ n)))))

@@ -1,4 +1,5 @@
 pub mod Quoting
+pub mod Left
 pub mod Blanks
 pub mod Scanning
 pub mod Gathering

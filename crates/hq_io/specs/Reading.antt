@@ -54,10 +54,22 @@ pub record Breaks (old new : Reading) (before after : List ℕ) : Type 0 where
   pub taken : new.taken + length after ≡ old.taken + length before
   pub none : EndsNone before after
 
--- the input has more pieces than it may, or more bytes
-abbrev pub PassesLimit : Reading → List ℕ → Type 0
-PassesLimit reader before = ((reader.pieces ≡ 100000) × (0 < length (pieces_of before))) ⊎ (2 ^ 32 < reader.taken + length before)
+-- a piece was given, which ended or was the rest
+abbrev pub GivesPiece : Bool → List ℕ → List ℕ → Type 0
+GivesPiece ended before after = (piece : Piece) × (pieces_of before ≡ piece ∷ pieces_of after) × (ended ≡ false → Ends (piece ∷ []) before after)
 
--- 100,000 pieces were given, or no more end within the bytes that an input may have
-abbrev pub GivesAll : Reading → List ℕ → Type 0
-GivesAll reader before = (reader.pieces ≡ 100000) ⊎ ((after : List ℕ) × EndsNone before after × (reader.taken + length before ≡ 2 ^ 32 + length after))
+-- all the bytes were taken that an input may have, they end no piece, and a byte more was read
+pub record TakesMost (old new : Reading) (before after : List ℕ) : Type 0 where
+  pub none : EndsNone before after
+  pub taken : new.taken + length after ≡ old.taken + length before
+  pub most : new.taken ≡ 2 ^ 32
+  pub more : 0 < length new.held
+  pub going : new.ended ≡ false
+
+-- the input has a piece more than it may, or a byte more, and the source gave it
+abbrev pub PassesLimit : Reading → Reading → List ℕ → List ℕ → Type 0
+PassesLimit old new before after = ((old.pieces ≡ 100000) × GivesPiece new.ended before after) ⊎ TakesMost old new before after
+
+-- as many pieces were taken as an input may have, or as many bytes, and a byte more was read; also of what tells no bytes
+abbrev pub HasMost : Reading → Reading → Type 0
+HasMost old new = (old.pieces ≡ 100000) ⊎ ((new.taken ≡ 2 ^ 32) × (0 < length new.held))

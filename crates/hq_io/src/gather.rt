@@ -1,5 +1,5 @@
 //! The bytes up to the `;` that ends a piece.
-ghost use Rattle.std.specs.Prelude.{◌≡◌, ◌≤◌, ◌^◌, [], IfOk, OnErr, vec_capacity};
+ghost use Rattle.std.specs.Prelude.{◌≡◌, ◌<◌, ◌≤◌, ◌^◌, [], length, IfOk, OnErr, vec_capacity};
 ghost use Rattle.std.specs.Io.KnownBytes.{prepend_known};
 ghost use Rattle.hq_value.specs.Causes.{HasCause};
 ghost use Rattle.hq_io.specs.Gathering.{Stopped, Uncut};
@@ -58,6 +58,7 @@ pub fn gather<S: Source>(
     requires room { 65536 ≤ vec_capacity text.old }
     requires taken { taken.old ≤ 2 ^ 32 }
     ensures stop { IfOk result (λ stop. Stopped stop (prepend_known chunk.old (S.left source.old)) (prepend_known chunk.new (S.left source.new)) text.new.items taken.old taken.new) }
+    ensures more { IfOk result (λ stop. stop ≡ Stop.Limit → 0 < length chunk.new) }
     ensures fault { OnErr result (Uncut (prepend_known chunk.old (S.left source.old)) (prepend_known chunk.new (S.left source.new)) taken.old taken.new) }
     ensures held { OnErr result (chunk.new ≡ []) }
     ensures room { 65536 ≤ vec_capacity text.new }

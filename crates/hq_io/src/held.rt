@@ -62,6 +62,7 @@ pub fn take_part(
     requires fits { length text.old.items ≤ 65536 }
     requires taken { taken.old ≤ 2 ^ 32 }
     ensures part { (seen : List ℕ) → Gathered seen spot long text.old.items → TakesPart result seen text.new.items chunk.old chunk.new taken.old taken.new }
+    ensures more { result ≡ Part.Limit → 0 < length chunk.new }
     ensures room { 65536 ≤ vec_capacity text.new }
     ensures taken { taken.new ≤ 2 ^ 32 }
 {

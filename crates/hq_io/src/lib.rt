@@ -29,6 +29,3 @@ pub use piece::Piece;
 pub use place::{Place, is_blank};
 pub use reader::{ReadFault, StatementReader};
 pub use traits::{Sink, Source};
-
-#[cfg(test)]
-mod tests;

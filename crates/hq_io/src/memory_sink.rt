@@ -1,5 +1,5 @@
 //! A sink over memory, whose calls fail by a plan.
-ghost use Rattle.std.specs.Prelude.{◌≡◌, ℕ, Some, None, [], is_err, IsTrue, OnErr, IsErr, if◌then◌else◌};
+ghost use Rattle.std.specs.Prelude.{◌≡◌, ℕ, Some, None, [], is_err, IsTrue, OnOk, OnErr, IsErr, if◌then◌else◌};
 ghost use Rattle.hq_value.specs.Causes.{HasCause, raised};
 ghost use Rattle.hq_io.specs.Memory.{fails_next};
 ghost use Rattle.hq_io.specs.Told.{WritesPrefix};
@@ -98,6 +98,7 @@ impl Sink for MemSink {
         ensures bytes { WritesPrefix (Some self.old.given) (Some self.new.given) result bytes.now }
         ensures label { self.new.label ≡ self.old.label }
         ensures cause { HasCause self.old.faults self.new.faults result }
+        ensures steady { OnOk result (self.new.faults ≡ self.old.faults) }
         ensures sound { ⊥ → (self.new.faults ≡ self.old.faults) × ⊥ }
         ensures planned { IsTrue (fails_next self.old.fails self.old.calls) → IsErr result }
         ensures nothing { OnErr result (self.new.given ≡ self.old.given) }

@@ -1,5 +1,5 @@
 //! A source over memory, whose calls fail by a plan.
-ghost use Rattle.std.specs.Prelude.{◌≡◌, ◌<◌, ◌≤◌, ℕ, length, drop, take, Some, None, [], is_err, IfOk, if◌then◌else◌};
+ghost use Rattle.std.specs.Prelude.{◌≡◌, ◌<◌, ◌≤◌, ℕ, length, drop, take, Some, None, [], is_err, IfOk, OnOk, if◌then◌else◌};
 ghost use Rattle.std.specs.Io.{ReadsAtMost};
 ghost use Rattle.std.specs.Io.KnownBytes.{ReadConsumes};
 ghost use Rattle.hq_value.specs.Causes.{HasCause, raised};
@@ -119,6 +119,7 @@ impl Source for MemSource {
         ensures bytes { ReadConsumes (Some self.old.left) (Some self.new.left) result into.new }
         ensures label { self.new.label ≡ self.old.label }
         ensures cause { HasCause self.old.faults self.new.faults result }
+        ensures steady { OnOk result (self.new.faults ≡ self.old.faults) }
         ensures sound { NoneLeft self.old.fails self.old.calls → (self.new.faults ≡ self.old.faults) × NoneLeft self.new.fails self.new.calls }
         ensures planned { is_err result ≡ fails_next self.old.fails self.old.calls }
         ensures counted { self.new.faults ≡ (if is_err result then raised self.old.faults 1 else self.old.faults) }

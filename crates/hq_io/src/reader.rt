@@ -1,5 +1,6 @@
 //! The pieces of what a source gives.
-ghost use Rattle.std.specs.Prelude.{◌≡◌, ◌≤◌, ◌+◌, ◌++◌, ◌≢◌, ◌^◌, [], false, true, length, Ok, IfOk, IfSome, OnErr};
+ghost use Rattle.std.specs.Io.KnownBytes.{IsAtEnd};
+ghost use Rattle.std.specs.Prelude.{◌≡◌, ◌≤◌, ◌+◌, ◌++◌, ◌≢◌, ◌^◌, [], false, true, length, Ok, IfOk, IsSome, OnErr};
 ghost use Rattle.hq_value.specs.Causes.{HasCause};
 ghost use Rattle.hq_io.specs.Told.{IfTold};
 ghost use Rattle.hq_io.specs.Counted.{Counted};
@@ -41,7 +42,7 @@ impl Model for StatementReader {
 }
 
 impl StatementReader {
-    ghost use Rattle.hq_io.specs.Reading.{ahead, pieces_given, Cuts, PassesLimit, GivesAll, Breaks};
+    ghost use Rattle.hq_io.specs.Reading.{ahead, pieces_given, Cuts, PassesLimit, HasMost, Breaks};
 
     /// A reader that has taken nothing. No later call takes memory.
     pub fn new(alloc: Global) -> Result<StatementReader, NoMemory>
@@ -68,14 +69,17 @@ impl StatementReader {
     /// Goes to the next piece, whose text is then `text`.
     pub fn advance<S: Source>(&mut self, source: &mut S) -> Result<Kind, ReadFault>
         ensures piece { IfOk result (λ kind. kind ≢ Kind.Limit → IfTold (ahead self.old (S.left source.old)) (ahead self.new (S.left source.new)) (Cuts kind self.old self.new)) }
-        ensures limit { IfOk result (λ kind. kind ≡ Kind.Limit → IfSome (ahead self.old (S.left source.old)) (PassesLimit self.old)) }
-        ensures given { IfOk result (λ kind. kind ≡ Kind.Limit → IfSome (ahead self.old (S.left source.old)) (GivesAll self.old)) }
+        ensures limit { IfOk result (λ kind. kind ≡ Kind.Limit → IfTold (ahead self.old (S.left source.old)) (ahead self.new (S.left source.new)) (PassesLimit self.old self.new)) }
         ensures pieces { IfOk result (λ kind. kind ≢ Kind.Limit → self.new.pieces ≡ self.old.pieces + length (pieces_given kind self.new.text)) }
         ensures ended { IfOk result (λ kind. kind ≡ Kind.End → self.new.ended ≡ true) }
         ensures unended { IfOk result (λ kind. kind ≡ Kind.Unended → self.new.ended ≡ true) }
         ensures over { self.old.ended ≡ true → result ≡ Ok Kind.End }
+        ensures told { IsSome (S.left source.old) → IsSome (S.left source.new) }
+        ensures at_end { IfOk result (λ _. (self.old.ended ≡ true → IsAtEnd (S.left source.old)) → self.new.ended ≡ true → IsAtEnd (S.left source.new)) }
+        ensures most { IfOk result (λ kind. kind ≡ Kind.Limit → HasMost self.old self.new) }
         ensures fault { OnErr result (IfTold (ahead self.old (S.left source.old)) (S.left source.new) (Breaks self.old self.new)) }
         ensures kept { OnErr result ((self.new.held ≡ []) × (self.new.ended ≡ false) × (self.new.pieces ≡ self.old.pieces)) }
+        ensures was_within { (self.old.pieces ≤ 100000) × (self.old.taken ≤ 2 ^ 32) }
         ensures within { (self.new.pieces ≤ 100000) × (self.new.taken ≤ 2 ^ 32) }
         ensures label { S.label source.new ≡ S.label source.old }
         ensures cause { HasCause (S.faults source.old) (S.faults source.new) result }

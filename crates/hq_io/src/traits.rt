@@ -1,5 +1,5 @@
 //! What bytes are read from, and what they are written to.
-ghost use Rattle.std.specs.Prelude.{◌≡◌, ◌<◌, ℕ, List, length};
+ghost use Rattle.std.specs.Prelude.{◌≡◌, ◌<◌, ℕ, List, length, OnOk};
 ghost use Rattle.std.specs.declared.option.Option.{Option};
 ghost use Rattle.std.specs.Io.{ReadsAtMost};
 ghost use Rattle.std.specs.Io.KnownBytes.{ReadConsumes};
@@ -31,6 +31,7 @@ pub trait Source: Drop + Send {
         ensures bytes { ReadConsumes (left self.old) (left self.new) result into.new }
         ensures label { label self.new ≡ label self.old }
         ensures cause { HasCause (faults self.old) (faults self.new) result }
+        ensures steady { OnOk result (faults self.new ≡ faults self.old) }
         ensures sound { sound self.old → (faults self.new ≡ faults self.old) × sound self.new };
 
     /// How often it has failed. The count never falls, and stays at its type's end.
@@ -58,6 +59,7 @@ pub trait Sink: Drop + Send {
         ensures bytes { WritesPrefix (given self.old) (given self.new) result bytes.now }
         ensures label { label self.new ≡ label self.old }
         ensures cause { HasCause (faults self.old) (faults self.new) result }
+        ensures steady { OnOk result (faults self.new ≡ faults self.old) }
         ensures sound { sound self.old → (faults self.new ≡ faults self.old) × sound self.new };
 
     /// How often it has failed. The count never falls, and stays at its type's end.

@@ -1,4 +1,10 @@
+pub mod Bags
+pub mod Counting
 pub mod Derived
 pub mod Equal
+pub mod Examples
+pub mod Fitting
+pub mod Hashing
 pub mod Order
 pub mod Sorting
+pub mod Widened

@@ -1,5 +1,10 @@
 pub mod Bucket
 pub mod Causes
+pub mod Cells
+pub mod Compare
+pub mod Kinds
+pub mod Marks
 pub mod Order
+pub mod Parts
 pub mod Sorting
 pub mod Tables

@@ -3,7 +3,6 @@ ghost use Rattle.std.specs.Prelude.{◌≡◌, IfOk};
 ghost use Rattle.hq_value.specs.Order.{value_cmp};
 
 use crate::{Chars, NoMemory};
-use std::alloc::Global;
 use std::cmp::Ordering;
 
 /// A value of a row. The variants stand in value order: NULL is last.
@@ -17,13 +16,13 @@ pub enum Value {
 
 impl Value {
     /// An equal value.
-    pub fn copy(&self, alloc: Global) -> Result<Value, NoMemory>
+    pub fn copy(&self) -> Result<Value, NoMemory>
         ensures { IfOk result (λ copy. copy ≡ self.now) }
     {
         match self {
             Value::Bool(b) => Ok(Value::Bool(*b)),
             Value::Int(n) => Ok(Value::Int(*n)),
-            Value::Text(text) => Ok(Value::Text(text.copy(alloc)?)),
+            Value::Text(text) => Ok(Value::Text(text.copy()?)),
             Value::Null => Ok(Value::Null),
         }
     }

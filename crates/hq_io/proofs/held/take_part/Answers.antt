@@ -54,3 +54,8 @@ returns-else-more-clause-part c = λ seen g.
       c.skip-in-Through.ensures ∙ drop_all (length (take c.min.result held)) c.args.chunk.now (omega (arith, ap length all)),
       omega (arith, ap length all),
     )
+
+pub returns-then-more-clause-more : goal.returns-then-more-clause-more
+returns-then-more-clause-more c =
+    let same = c.as_slice-held.ensures in
+    λ e. omega (arith, ap length c.skip-in-Through.ensures, length-drop {A = ℕ}, length-take {A = ℕ}, ap length same)
