@@ -1,8 +1,9 @@
 -- The definitions at small values.
 use Rattle.std.proofs.Common.{◌≡◌, ℕ, ◌<◌, List, [], ◌∷◌, true, false, Some, None, length, get_or, refl, ap, arith, lit<, lit≤}
+use Rattle.hq_value.specs.declared.entry.FileId.{FileId}
 use Rattle.hq_store.specs.FileStep.{FileState, IsTornAt, IsCut}
 use Rattle.hq_store.specs.MemPlan.{MemState, next_tail, NoFailureLeft}
-use Rattle.hq_store.specs.Pieces.{bytes_in, IsRunAt}
+use Rattle.hq_store.specs.Pages.{bytes_in, IsRunAt}
 
 -- the second call leaves 10 bytes, and the third fails too
 abbrev client : ℕ → MemState
@@ -29,16 +30,19 @@ fourth = refl
 one_left : NoFailureLeft (client 2) → ⊥
 one_left left = let late : 3 < 3 = left 1 (record { call = 0; tail = 0 }) (lit< tt) in omega arith
 
+here : FileId
+here = record { table = 0; lane = 0; bucket = 15 }
+
 -- a file of three bytes
 abbrev three : FileState
-three = record { bytes = 1 ∷ 2 ∷ 3 ∷ []; sure = 3; sealed = 0; flushed = false }
+three = record { id = here; bytes = 1 ∷ 2 ∷ 3 ∷ []; sure = 3; sealed = 0; flushed = false }
 
 -- its first two bytes, and another one
 abbrev torn : FileState
-torn = record { bytes = 1 ∷ 2 ∷ 9 ∷ []; sure = 2; sealed = 0; flushed = false }
+torn = record { id = here; bytes = 1 ∷ 2 ∷ 9 ∷ []; sure = 2; sealed = 0; flushed = false }
 
 is_torn : IsTornAt true three 2 torn
-is_torn = record { bytes = λ t. refl; long = λ t. lit≤ tt; sure = refl; sealed = refl }
+is_torn = record { id = refl; bytes = λ t. refl; long = λ t. lit≤ tt; sure = refl; sealed = refl; flushed = refl }
 
 -- lists of two lengths are two
 not_as_long : (xs ys : List ℕ) → xs ≡ ys → length ys < length xs → ⊥
@@ -48,7 +52,7 @@ not_as_long xs ys same longer = let equal : length xs ≡ length ys = ap length 
 is_not_cut : IsCut true three 2 torn → ⊥
 is_not_cut cut = not_as_long torn.bytes (1 ∷ 2 ∷ []) (cut.bytes refl) (lit< tt)
 
--- a group of two pieces, a piece, a run and a byte that is not shared
+-- a group of two pages, a page, a run and a byte that is not shared
 in_order : bytes_in (((1 ∷ 2 ∷ []) ∷ (3 ∷ 4 ∷ []) ∷ []) ∷ []) ((5 ∷ 6 ∷ []) ∷ []) ((7 ∷ []) ∷ []) (8 ∷ []) ≡ 1 ∷ 2 ∷ 3 ∷ 4 ∷ 5 ∷ 6 ∷ 7 ∷ 8 ∷ []
 in_order = refl
 

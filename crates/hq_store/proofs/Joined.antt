@@ -4,7 +4,7 @@ use Rattle.std.specs.Prelude.{slice_range}
 use Rattle.std.proofs.Math.Seq.{take-append_seam, take-append-add, drop-append-add, take-length, take-add}
 use Rattle.std.proofs.lemmas.List.{take-append-le, drop-append-le, take-take, take-append-drop, drop-drop, take_more, flat_map_more, take_more_set, take-set, take_all, length-take}
 use Rattle.std.proofs.lemmas.List.Concat.{flat_map-append, get_or-flat_map}
-use Rattle.hq_store.specs.Pieces.{flat, joined, bytes_in, AreWhole, AreGroups, IsRunAt}
+use Rattle.hq_store.specs.Pages.{flat, joined, bytes_in, AreWhole, AreGroups, IsRunAt}
 
 -- parts behind the first
 tail_whole : {A : Type 0} (size : ℕ) (part : List A) (parts : List (List A)) → AreWhole size (part ∷ parts) → AreWhole size parts
@@ -30,29 +30,29 @@ length-flat {A} size parts whole =
 pub length-joined : {A : Type 0} (size : ℕ) (parts : List (List A)) (rest : List A) → AreWhole size parts → length (joined parts rest) ≡ length parts * size + length rest
 length-joined size parts rest whole = omega (arith, length-append (flat parts) rest, length-flat size parts whole)
 
--- groups of pieces, counted
+-- groups of pages, counted
 pub length-groups : (size count : ℕ) (groups : List (List (List ℕ))) → AreGroups size count groups → length (flat (flat groups)) ≡ length groups * (count * size)
 length-groups size count groups whole =
-    let pieces : length (flat groups) ≡ length groups * count = length-flat count groups whole.0 in
+    let pages : length (flat groups) ≡ length groups * count = length-flat count groups whole.0 in
     let bytes : length (flat (flat groups)) ≡ length (flat groups) * size = length-flat size (flat groups) whole.1 in
-    bytes ∙ ap (λ (n : ℕ). n * size) pieces ∙ grind arith
+    bytes ∙ ap (λ (n : ℕ). n * size) pages ∙ grind arith
 
 -- the bytes of the groups are among all bytes
-pub groups_within : (groups : List (List (List ℕ))) (pieces runs : List (List ℕ)) (unshared : List ℕ) → length (flat (flat groups)) ≤ length (bytes_in groups pieces runs unshared)
-groups_within groups pieces runs unshared = omega (arith, length-append (flat (flat groups)) (joined pieces (joined runs unshared)))
+pub groups_within : (groups : List (List (List ℕ))) (pages runs : List (List ℕ)) (unshared : List ℕ) → length (flat (flat groups)) ≤ length (bytes_in groups pages runs unshared)
+groups_within groups pages runs unshared = omega (arith, length-append (flat (flat groups)) (joined pages (joined runs unshared)))
 
--- a piece of a group among all pieces
-pub piece_in_group : (count : ℕ) (groups : List (List (List ℕ))) (at place within : ℕ) (group pieces : List (List ℕ)) (piece : List ℕ) → AreWhole count groups
-    → place < length groups → within < count → at ≡ place * count + within → group ≡ get_or groups place group → pieces ≡ group
-    → piece ≡ get_or pieces within piece → piece ≡ get_or (flat groups) at piece
-piece_in_group count groups at place within group pieces piece whole there inside here is_group same is_piece =
+-- a page of a group among all pages
+pub page_in_group : (count : ℕ) (groups : List (List (List ℕ))) (at place within : ℕ) (group pages : List (List ℕ)) (page : List ℕ) → AreWhole count groups
+    → place < length groups → within < count → at ≡ place * count + within → group ≡ get_or groups place group → pages ≡ group
+    → page ≡ get_or pages within page → page ≡ get_or (flat groups) at page
+page_in_group count groups at place within group pages page whole there inside here is_group same is_page =
     let front : length (flat (take place groups)) ≡ place * count = length-front count groups place whole (omega arith) in
     let at_place : at ≡ length (flat (take place groups)) + within = omega arith in
     let long : within < length (get_or groups place group) = omega (arith, whole place group there) in
-    is_piece
-    ∙ ap (λ (ps : List (List ℕ)). get_or ps within piece) (same ∙ is_group)
-    ∙ sym (get_or-flat_map (λ (g : List (List ℕ)). g) groups place within group piece there long)
-    ∙ ap (λ (n : ℕ). get_or (flat groups) n piece) (sym at_place)
+    is_page
+    ∙ ap (λ (ps : List (List ℕ)). get_or ps within page) (same ∙ is_group)
+    ∙ sym (get_or-flat_map (λ (g : List (List ℕ)). g) groups place within group page there long)
+    ∙ ap (λ (n : ℕ). get_or (flat groups) n page) (sym at_place)
 
 -- one part more
 pub flat_more : {A : Type 0} (parts : List (List A)) (i : ℕ) (d : List A) → i < length parts → flat (take (i + 1) parts) ≡ flat (take i parts) ++ get_or parts i d
@@ -150,25 +150,25 @@ cut_in_part parts rest at place within part kept there here is short front_of =
 pub cut_behind : (front bytes : List ℕ) (at within : ℕ) (kept : List ℕ) → at ≡ length front + within → kept ≡ take within bytes → front ++ kept ≡ take at (front ++ bytes)
 cut_behind front bytes at within kept here is = rw (here, is) (sym (take-append-add front bytes within))
 
--- the pieces of groups and those behind them, as one list
-all_pieces : (groups : List (List (List ℕ))) (pieces : List (List ℕ)) (tail : List ℕ) → joined (joined groups pieces) tail ≡ joined (flat groups) (joined pieces tail)
-all_pieces groups pieces tail =
-    ap (λ (bytes : List ℕ). bytes ++ tail) (flat_map-append (λ (piece : List ℕ). piece) (flat groups) pieces)
-    ∙ append_assoc (flat (flat groups)) (flat pieces) tail
+-- the pages of groups and those behind them, as one list
+all_pages : (groups : List (List (List ℕ))) (pages : List (List ℕ)) (tail : List ℕ) → joined (joined groups pages) tail ≡ joined (flat groups) (joined pages tail)
+all_pages groups pages tail =
+    ap (λ (bytes : List ℕ). bytes ++ tail) (flat_map-append (λ (page : List ℕ). page) (flat groups) pages)
+    ∙ append_assoc (flat (flat groups)) (flat pages) tail
 
--- pieces that go to the groups stay where they were
-pub bytes_stay : (groups groups' : List (List (List ℕ))) (pieces pieces' : List (List ℕ)) (tail : List ℕ) → joined groups' pieces' ≡ joined groups pieces
-    → joined (flat groups') (joined pieces' tail) ≡ joined (flat groups) (joined pieces tail)
-bytes_stay groups groups' pieces pieces' tail same =
-    sym (all_pieces groups' pieces' tail)
-    ∙ ap (λ (pieces : List (List ℕ)). joined pieces tail) same
-    ∙ all_pieces groups pieces tail
+-- pages that go to the groups stay where they were
+pub bytes_stay : (groups groups' : List (List (List ℕ))) (pages pages' : List (List ℕ)) (tail : List ℕ) → joined groups' pages' ≡ joined groups pages
+    → joined (flat groups') (joined pages' tail) ≡ joined (flat groups) (joined pages tail)
+bytes_stay groups groups' pages pages' tail same =
+    sym (all_pages groups' pages' tail)
+    ∙ ap (λ (pages : List (List ℕ)). joined pages tail) same
+    ∙ all_pages groups pages tail
 
 -- all bytes, counted
-pub length-bytes_in : (size : ℕ) (groups : List (List (List ℕ))) (pieces runs : List (List ℕ)) (unshared : List ℕ) → AreWhole size pieces
-    → length (bytes_in groups pieces runs unshared) ≡ length (flat (flat groups)) + (length pieces * size + length (joined runs unshared))
-length-bytes_in size groups pieces runs unshared whole =
-    omega (arith, length-append (flat (flat groups)) (joined pieces (joined runs unshared)), length-joined size pieces (joined runs unshared) whole)
+pub length-bytes_in : (size : ℕ) (groups : List (List (List ℕ))) (pages runs : List (List ℕ)) (unshared : List ℕ) → AreWhole size pages
+    → length (bytes_in groups pages runs unshared) ≡ length (flat (flat groups)) + (length pages * size + length (joined runs unshared))
+length-bytes_in size groups pages runs unshared whole =
+    omega (arith, length-append (flat (flat groups)) (joined pages (joined runs unshared)), length-joined size pages (joined runs unshared) whole)
 
 -- parts that are some of the first members
 pub flat_taken : {A : Type 0} (size count : ℕ) (parts : List (List A)) (rest all : List A) → AreWhole size parts → length parts ≡ count → joined parts rest ≡ all
@@ -200,9 +200,9 @@ cut_at_run runs unshared at place within run kept there here is short front =
     ∙ ap (λ (xs : List ℕ). joined (take place runs) xs) (append-nil kept)
     ∙ cut_in_part runs unshared at place within run kept there here is short front
 
--- a cut within a piece keeps the pieces before it and its front
-pub cut_at_piece : (pieces : List (List ℕ)) (rest : List ℕ) (at place within : ℕ) (piece other kept : List ℕ) → place < length pieces
-    → at ≡ length (flat (take place pieces)) + within → piece ≡ get_or pieces place piece → within ≤ length piece → kept ≡ take within piece
-    → joined (take place (set pieces place other)) kept ≡ take at (joined pieces rest)
-cut_at_piece pieces rest at place within piece other kept there here is short front =
-    ap (λ (ps : List (List ℕ)). joined ps kept) (take-set pieces place other) ∙ cut_in_part pieces rest at place within piece kept there here is short front
+-- a cut within a page keeps the pages before it and its front
+pub cut_at_page : (pages : List (List ℕ)) (rest : List ℕ) (at place within : ℕ) (page other kept : List ℕ) → place < length pages
+    → at ≡ length (flat (take place pages)) + within → page ≡ get_or pages place page → within ≤ length page → kept ≡ take within page
+    → joined (take place (set pages place other)) kept ≡ take at (joined pages rest)
+cut_at_page pages rest at place within page other kept there here is short front =
+    ap (λ (ps : List (List ℕ)). joined ps kept) (take-set pages place other) ∙ cut_in_part pages rest at place within page kept there here is short front

@@ -1,12 +1,13 @@
 -- Over any run of calls the sealed bytes stay.
 use Rattle.std.proofs.Common.{◌≡◌, ◌∙◌, ℕ, ◌≤◌, Bool, List, length, take, refl, sym, ap, arith, length-append}
 use Rattle.std.proofs.lemmas.List.{take-take, take-append-le, length-take-le}
+use Rattle.hq_value.specs.declared.entry.FileId.{FileId}
 use Rattle.hq_store.specs.FileStep.{FileState, IsFresh}
 use Rattle.hq_store.specs.FileRun.{FileStep, appends, append_fails, cuts, cut_fails, changes_nothing, seals, FileRun, no_call, one_more, IsKept, KeepsSealed}
 
 -- a new file
-pub fresh_kept : (told : Bool) (new : FileState) → IsFresh told new → IsKept told new
-fresh_kept told new fresh = record { sealed = omega arith; there = λ t. omega arith }
+pub fresh_kept : (told : Bool) (id : FileId) (new : FileState) → IsFresh told id new → IsKept told new
+fresh_kept told id new fresh = record { sealed = omega arith; there = λ t. omega arith }
 
 -- bytes that stay up to some length stay up to a shorter one
 same_below : (low high : ℕ) (xs ys : List ℕ) → low ≤ high → take high xs ≡ take high ys → take low xs ≡ take low ys
@@ -46,3 +47,17 @@ run_keeps told old new kept (one_more now _ run step) =
       sealed = omega arith;
       bytes = λ t. same_below old.sealed now.sealed new.bytes now.bytes (omega arith) (last.bytes t) ∙ before.bytes t;
     }
+
+-- one call keeps the id
+step_id : (told : Bool) (old new : FileState) → FileStep told old new → new.id ≡ old.id
+step_id told old new (appends added no_tail is) = is.id
+step_id told old new (append_fails no_tail is) = is.id
+step_id told old new (cuts len low high is) = is.id
+step_id told old new (cut_fails len low high is) = is.id
+step_id told old new (changes_nothing is) = is.id
+step_id told old new (seals no_tail is) = is.id
+
+-- so does a run of calls
+pub run_id : (told : Bool) (old new : FileState) → FileRun told old new → new.id ≡ old.id
+run_id told old new no_call = refl
+run_id told old new (one_more now _ run step) = step_id told now new step ∙ run_id told old now run

@@ -1,4 +1,6 @@
 pub mod FileRun
 pub mod FileStep
+pub mod Kept
 pub mod MemPlan
-pub mod Pieces
+pub mod Outcomes
+pub mod Pages

@@ -1,4 +1,4 @@
-//! Finished groups of pieces.
+//! Finished groups of pages.
 ghost use Rattle.std.specs.Prelude.{◌≡◌, IfOk};
 
 use bytes::Bytes;
@@ -7,10 +7,10 @@ use std::alloc::{AllocError, Global};
 use std::marker::Model;
 use std::sync::Arc;
 
-/// Pieces in order, which a file and its seals share whole: a clone is one handle more.
+/// Pages in order, which a file and its seals share whole: a clone is one handle more.
 #[derive(Drop)]
 pub(crate) struct Group {
-    pieces: Arc<Vec<Bytes>>,
+    pages: Arc<Vec<Bytes>>,
 }
 
 impl Model for Group {
@@ -18,22 +18,22 @@ impl Model for Group {
 
     ghost Value = { List (List ℕ) };
 
-    ghost view = { λ g. g.pieces.value.items };
+    ghost view = { λ g. g.pages.value.items };
 }
 
 impl Group {
-    pub(crate) fn new(alloc: Global, pieces: &[Bytes]) -> Result<Group, NoMemory>
-        ensures { IfOk result (λ group. group ≡ pieces.now) }
+    pub(crate) fn new(alloc: Global, pages: &[Bytes]) -> Result<Group, NoMemory>
+        ensures { IfOk result (λ group. group ≡ pages.now) }
     {
-        let pieces = Vec::from_clones(alloc, pieces)?;
-        let pieces = Arc::new(alloc, pieces)?;
-        Ok(Group { pieces })
+        let pages = Vec::from_clones(alloc, pages)?;
+        let pages = Arc::new(alloc, pages)?;
+        Ok(Group { pages })
     }
 
-    pub(crate) fn pieces(&self) -> &[Bytes]
+    pub(crate) fn pages(&self) -> &[Bytes]
         ensures { result.now ≡ self.now }
     {
-        self.pieces.as_slice()
+        self.pages.as_slice()
     }
 }
 
@@ -43,7 +43,7 @@ impl Clone for Group {
     ghost is_clone = { λ group copy. copy ≡ group };
 
     fn clone(&self) -> Result<Group, AllocError> {
-        let pieces = self.pieces.clone()?;
-        Ok(Group { pieces })
+        let pages = self.pages.clone()?;
+        Ok(Group { pages })
     }
 }

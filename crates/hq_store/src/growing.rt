@@ -1,26 +1,26 @@
 //! Bytes that grow at their end, can be cut, and are shared with no copy.
 ghost use Rattle.std.specs.Prelude.{◌≡◌, ◌+◌, ◌-◌, ◌*◌, ◌^◌, ◌<◌, ◌≤◌, ◌++◌, [], length, take, slice_range, vec_capacity, IfOk, OnOk, OnErr};
-ghost use Rattle.hq_store.specs.Pieces.{joined, AreWhole};
+ghost use Rattle.hq_store.specs.Pages.{joined, AreWhole};
 
 use crate::group::Group;
-use crate::mem_seal::MemSeal;
-use crate::pieces::{GROUP, PIECE, add_pieces, make_groups};
+use crate::mem_seal::{MemSeal, Parts};
+use crate::pages::{GROUP, PAGE, add_pages, make_groups};
 use crate::read::read;
 use crate::tail::{close, cut_tail, gather, keep_run};
 use bytes::Bytes;
-use hq_value::NoMemory;
+use hq_value::{FileId, NoMemory};
 use std::alloc::Global;
 use std::marker::Model;
 use std::mem;
 
-/// The bytes of a file, in order: finished groups of full pieces, full pieces behind them, runs that flushes closed, and
-/// bytes that no seal shares yet. Behind the full pieces are fewer bytes than a piece has. There is room for one run at
+/// The bytes of a file, in order: finished groups of full pages, full pages behind them, runs that flushes closed, and
+/// bytes that no seal shares yet. Behind the full pages are fewer bytes than a page has. There is room for one run at
 /// least, so that a cut takes no memory, and no cut reaches into a finished group.
 #[derive(Drop)]
 pub(crate) struct GrowingBytes {
     alloc: Global,
     groups: Vec<Group>,
-    pieces: Vec<Bytes>,
+    pages: Vec<Bytes>,
     runs: Vec<Bytes>,
     unshared: Vec<u8>,
     len: u64,
@@ -28,19 +28,19 @@ pub(crate) struct GrowingBytes {
 
 impl Model for GrowingBytes {
     ghost use Rattle.std.specs.Prelude.{◌≡◌, ◌^◌, ◌<◌, length, vec_capacity};
-    ghost use Rattle.hq_store.specs.declared.pieces.TheConstants.{PIECE, GROUP};
-    ghost use Rattle.hq_store.specs.Pieces.{Grown, flat, joined, bytes_in, AreWhole, AreGroups};
+    ghost use Rattle.hq_store.specs.declared.pages.TheConstants.{PAGE, GROUP};
+    ghost use Rattle.hq_store.specs.Pages.{Grown, flat, joined, bytes_in, AreWhole, AreGroups};
 
     ghost Value = { Grown };
 
     ghost view = { λ b. record {
-      bytes = bytes_in b.groups.items b.pieces.items b.runs.items b.unshared.items;
+      bytes = bytes_in b.groups.items b.pages.items b.runs.items b.unshared.items;
       fixed = length (flat (flat b.groups.items));
     } };
 
-    ghost invariant = { λ b. AreGroups PIECE GROUP b.groups.items × AreWhole PIECE b.pieces.items
-        × (length (joined b.runs.items b.unshared.items) < PIECE) × (0 < vec_capacity b.runs)
-        × (b.len ≡ length (bytes_in b.groups.items b.pieces.items b.runs.items b.unshared.items)) × (b.len < 2 ^ 64) };
+    ghost invariant = { λ b. AreGroups PAGE GROUP b.groups.items × AreWhole PAGE b.pages.items
+        × (length (joined b.runs.items b.unshared.items) < PAGE) × (0 < vec_capacity b.runs)
+        × (b.len ≡ length (bytes_in b.groups.items b.pages.items b.runs.items b.unshared.items)) × (b.len < 2 ^ 64) };
 }
 
 impl GrowingBytes {
@@ -52,7 +52,7 @@ impl GrowingBytes {
         Ok(GrowingBytes {
             alloc,
             groups: Vec::new(alloc),
-            pieces: Vec::new(alloc),
+            pages: Vec::new(alloc),
             runs,
             unshared: Vec::new(alloc),
             len: 0,
@@ -71,7 +71,7 @@ impl GrowingBytes {
         ensures value { result ≡ self.now.fixed }
         ensures within { result ≤ length self.now.bytes }
     {
-        self.groups.len() * (GROUP * PIECE)
+        self.groups.len() * (GROUP * PAGE)
     }
 
     /// Adds bytes at the end. Without memory nothing changes.
@@ -82,10 +82,10 @@ impl GrowingBytes {
         let Some(len) = self.len.checked_add(bytes.len() as u64) else {
             return Err(NoMemory);
         };
-        let tail = self.len as usize - self.fixed() - self.pieces.len() * PIECE;
+        let tail = self.len as usize - self.fixed() - self.pages.len() * PAGE;
         add(
             self.alloc,
-            &mut self.pieces,
+            &mut self.pages,
             &mut self.runs,
             &mut self.unshared,
             tail,
@@ -102,37 +102,43 @@ impl GrowingBytes {
         ensures { self.new ≡ record self.old { bytes = take len self.old.bytes } }
     {
         let at = len as usize - self.fixed();
-        cut(&mut self.pieces, &mut self.runs, &mut self.unshared, at);
+        cut(&mut self.pages, &mut self.runs, &mut self.unshared, at);
         self.len = len;
     }
 
-    // Makes groups of the full pieces below `sealed`. No byte is copied or changes.
+    // Makes groups of the full pages below `sealed`. No byte is copied or changes.
     fn group_sealed(&mut self, sealed: u64) -> Result<(), NoMemory>
         requires { self.old.fixed ≤ sealed }
         ensures bytes { self.new.bytes ≡ self.old.bytes }
         ensures fixed { self.new.fixed ≤ sealed }
     {
-        let below = sealed as usize / PIECE - self.groups.len() * GROUP;
-        let count = below.min(self.pieces.len()) / GROUP;
+        let below = sealed as usize / PAGE - self.groups.len() * GROUP;
+        let count = below.min(self.pages.len()) / GROUP;
         if count == 0 {
             return Ok(());
         }
-        make_groups(self.alloc, &mut self.groups, &mut self.pieces, count)
+        make_groups(self.alloc, &mut self.groups, &mut self.pages, count)
     }
 
-    /// A seal of these bytes. Those below `sealed` are never cut. No byte is copied or changes.
-    pub(crate) fn share(&mut self, sealed: u64) -> Result<MemSeal, NoMemory>
+    /// A seal of these bytes, of the file of that id. Those below `sealed` are never cut. No byte is copied or changes.
+    pub(crate) fn share(&mut self, id: FileId, sealed: u64) -> Result<MemSeal, NoMemory>
         requires { self.old.fixed ≤ sealed }
-        ensures seal { IfOk result (λ seal. seal ≡ self.old.bytes) }
+        ensures seal { IfOk result (λ seal. seal.bytes ≡ self.old.bytes) }
+        ensures id { IfOk result (λ seal. seal.id ≡ id) }
         ensures bytes { self.new.bytes ≡ self.old.bytes }
         ensures fixed { self.new.fixed ≤ sealed }
     {
         self.group_sealed(sealed)?;
         close(self.alloc, &mut self.runs, &mut self.unshared)?;
         let groups = self.groups.clone()?;
-        let pieces = self.pieces.clone()?;
+        let pages = self.pages.clone()?;
         let runs = self.runs.clone()?;
-        Ok(MemSeal::new(groups, pieces, runs, self.len))
+        let parts = Parts {
+            groups,
+            pages,
+            runs,
+        };
+        MemSeal::new(self.alloc, id, parts, self.len)
     }
 
     /// Fills `into` with the bytes from `at` on.
@@ -142,7 +148,7 @@ impl GrowingBytes {
     {
         read(
             &self.groups,
-            &self.pieces,
+            &self.pages,
             &self.runs,
             &self.unshared,
             at as usize,
@@ -151,27 +157,27 @@ impl GrowingBytes {
     }
 }
 
-// Adds bytes behind the finished groups, where `tail` bytes are behind the full pieces. As a piece fills, its runs are
+// Adds bytes behind the finished groups, where `tail` bytes are behind the full pages. As a page fills, its runs are
 // gathered into it, so a byte is copied once more at most. Without memory nothing changes.
 fn add(
     alloc: Global,
-    pieces: &mut Vec<Bytes>,
+    pages: &mut Vec<Bytes>,
     runs: &mut Vec<Bytes>,
     unshared: &mut Vec<u8>,
     tail: usize,
     bytes: &[u8],
 ) -> Result<(), NoMemory>
-    requires whole { AreWhole PIECE pieces.old.items }
+    requires whole { AreWhole PAGE pages.old.items }
     requires tail { tail ≡ length (joined runs.old.items unshared.old.items) }
-    requires short { tail < PIECE }
+    requires short { tail < PAGE }
     requires room { 0 < vec_capacity runs.old }
-    ensures ok { OnOk result (joined pieces.new.items (joined runs.new.items unshared.new.items) ≡ joined pieces.old.items (joined runs.old.items unshared.old.items) ++ bytes.now) }
-    ensures err { OnErr result (joined pieces.new.items (joined runs.new.items unshared.new.items) ≡ joined pieces.old.items (joined runs.old.items unshared.old.items)) }
-    ensures whole { AreWhole PIECE pieces.new.items }
-    ensures short { length (joined runs.new.items unshared.new.items) < PIECE }
+    ensures ok { OnOk result (joined pages.new.items (joined runs.new.items unshared.new.items) ≡ joined pages.old.items (joined runs.old.items unshared.old.items) ++ bytes.now) }
+    ensures err { OnErr result (joined pages.new.items (joined runs.new.items unshared.new.items) ≡ joined pages.old.items (joined runs.old.items unshared.old.items)) }
+    ensures whole { AreWhole PAGE pages.new.items }
+    ensures short { length (joined runs.new.items unshared.new.items) < PAGE }
     ensures room { 0 < vec_capacity runs.new }
 {
-    let room = PIECE - tail;
+    let room = PAGE - tail;
     if bytes.len() < room {
         unshared.extend_from_slice(bytes)?;
         return Ok(());
@@ -179,32 +185,32 @@ fn add(
     let (head, rest) = bytes.split_at(room);
     let mut made = Vec::new(alloc);
     made.push(gather(alloc, runs, unshared, head)?)?;
-    let rest = add_pieces(alloc, &mut made, rest)?;
+    let rest = add_pages(alloc, &mut made, rest)?;
     let rest = Vec::from_slice(alloc, rest)?;
-    pieces.append(&mut made)?;
+    pages.append(&mut made)?;
     runs.clear();
     *unshared = rest;
     Ok(())
 }
 
 // Keeps the first `at` bytes behind the finished groups.
-fn cut(pieces: &mut Vec<Bytes>, runs: &mut Vec<Bytes>, unshared: &mut Vec<u8>, at: usize)
-    requires whole { AreWhole PIECE pieces.old.items }
-    requires short { length (joined runs.old.items unshared.old.items) < PIECE }
+fn cut(pages: &mut Vec<Bytes>, runs: &mut Vec<Bytes>, unshared: &mut Vec<u8>, at: usize)
+    requires whole { AreWhole PAGE pages.old.items }
+    requires short { length (joined runs.old.items unshared.old.items) < PAGE }
     requires room { 0 < vec_capacity runs.old }
-    requires within { at ≤ length (joined pieces.old.items (joined runs.old.items unshared.old.items)) }
-    ensures bytes { joined pieces.new.items (joined runs.new.items unshared.new.items) ≡ take at (joined pieces.old.items (joined runs.old.items unshared.old.items)) }
-    ensures whole { AreWhole PIECE pieces.new.items }
-    ensures short { length (joined runs.new.items unshared.new.items) < PIECE }
+    requires within { at ≤ length (joined pages.old.items (joined runs.old.items unshared.old.items)) }
+    ensures bytes { joined pages.new.items (joined runs.new.items unshared.new.items) ≡ take at (joined pages.old.items (joined runs.old.items unshared.old.items)) }
+    ensures whole { AreWhole PAGE pages.new.items }
+    ensures short { length (joined runs.new.items unshared.new.items) < PAGE }
     ensures room { 0 < vec_capacity runs.new }
 {
-    let place = at / PIECE;
-    if place < pieces.len() {
-        let mut piece = mem::replace(&mut pieces[place], Bytes::new());
-        piece.truncate(at % PIECE);
-        pieces.truncate(place);
-        keep_run(runs, unshared, piece);
+    let place = at / PAGE;
+    if place < pages.len() {
+        let mut page = mem::replace(&mut pages[place], Bytes::new());
+        page.truncate(at % PAGE);
+        pages.truncate(place);
+        keep_run(runs, unshared, page);
         return;
     }
-    cut_tail(runs, unshared, at - pieces.len() * PIECE);
+    cut_tail(runs, unshared, at - pages.len() * PAGE);
 }

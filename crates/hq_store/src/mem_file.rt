@@ -1,16 +1,18 @@
 //! Files in memory.
-ghost use Rattle.std.specs.Prelude.{◌≡◌, ℕ, ◌+◌, ◌<◌, ◌≤◌, ◌^◌, true, false, length, slice_range, ◌++◌, IfOk, OnOk, OnErr};
+ghost use Rattle.std.specs.Prelude.{◌≡◌, ℕ, ◌+◌, ◌<◌, ◌≤◌, ◌^◌, true, false, length, slice_range, ◌++◌, ◌⊎◌, IfOk, OnOk, OnErr};
 
 use crate::growing::GrowingBytes;
 use crate::mem_seal::MemSeal;
 use crate::store::StoredFile;
-use hq_value::NoMemory;
+use hq_value::{FileId, NoMemory};
 use std::alloc::Global;
 use std::marker::Model;
 
-/// A file in memory. `ready` is the next seal, which a flush made. Its finished groups lie under a seal.
+/// A file in memory. `ready` is the next seal, which a flush made and the next change of the file drops. Its finished
+/// groups lie under a seal.
 #[derive(Drop)]
 pub struct MemFile {
+    id: FileId,
     bytes: GrowingBytes,
     sure: u64,
     sealed: u64,
@@ -24,10 +26,16 @@ impl Model for MemFile {
 
     ghost Value = { FileState };
 
-    ghost view = { λ f. record { bytes = f.bytes.bytes; sure = f.sure; sealed = f.sealed; flushed = is_some f.ready } };
+    ghost view = { λ f. record {
+      id = f.id;
+      bytes = f.bytes.bytes;
+      sure = f.sure;
+      sealed = f.sealed;
+      flushed = is_some f.ready;
+    } };
 
     ghost invariant = { λ f. (f.sure ≤ length f.bytes.bytes) × (f.sealed ≤ f.sure) × (f.bytes.fixed ≤ f.sealed)
-        × ForSome f.ready (λ s. s ≡ f.bytes.bytes) };
+        × ForSome f.ready (λ s. (s.id ≡ f.id) × (s.bytes ≡ f.bytes.bytes)) };
 }
 
 impl StoredFile for MemFile {
@@ -39,13 +47,14 @@ impl StoredFile for MemFile {
 }
 
 impl MemFile {
-    ghost use Rattle.hq_store.specs.FileStep.{FileState, HasNoTail, IsFresh, IsAppended, IsTornAt, IsCut, IsSame, IsSealed};
+    ghost use Rattle.hq_store.specs.FileStep.{FileState, HasNoTail, IsFresh, IsAppended, IsTornAt, IsCut, IsSame, IsSealed, StaysUnflushed};
 
-    pub(crate) fn new(alloc: Global) -> Result<MemFile, NoMemory>
-        ensures { IfOk result (λ file. IsFresh true file) }
+    pub(crate) fn new(alloc: Global, id: FileId) -> Result<MemFile, NoMemory>
+        ensures { IfOk result (λ file. IsFresh true id file) }
     {
         let bytes = GrowingBytes::new(alloc)?;
         Ok(MemFile {
+            id,
             bytes,
             sure: 0,
             sealed: 0,
@@ -53,25 +62,33 @@ impl MemFile {
         })
     }
 
+    // Drops the next seal, which no longer has the file's bytes once these change.
+    fn unflush(&mut self)
+        ensures { self.new ≡ record self.old { flushed = false } }
+    {
+        self.ready = None;
+    }
+
     pub(crate) fn append(&mut self, bytes: &[u8]) -> Result<(), NoMemory>
         requires { HasNoTail true self.old }
         ensures added { OnOk result (IsAppended true self.old bytes.now self.new) }
         ensures fits { OnOk result (self.new.sure < 2 ^ 64) }
         ensures same { OnErr result (IsSame true self.old self.new) }
+        ensures unflushed { self.new.flushed ≡ false }
     {
-        self.ready = None;
+        self.unflush();
         self.bytes.append(bytes)?;
         self.sure = self.bytes.len();
         Ok(())
     }
 
-    pub(crate) fn tear(&mut self, bytes: &[u8]) -> Result<(), NoMemory>
-        ensures torn { OnOk result (IsTornAt true self.old self.old.sure self.new) }
-        ensures exact { OnOk result (self.new.bytes ≡ self.old.bytes ++ bytes.now) }
-        ensures same { OnErr result (IsSame true self.old self.new) }
+    // An append that failed: the bytes are there, or none where there is no memory for them.
+    pub(crate) fn tear(&mut self, bytes: &[u8])
+        ensures torn { IsTornAt true self.old self.old.sure self.new }
+        ensures exact { (self.new.bytes ≡ self.old.bytes ++ bytes.now) ⊎ (self.new.bytes ≡ self.old.bytes) }
     {
-        self.ready = None;
-        self.bytes.append(bytes)
+        self.unflush();
+        let _ = self.bytes.append(bytes);
     }
 
     pub(crate) fn cut(&mut self, len: u64)
@@ -79,7 +96,7 @@ impl MemFile {
         requires sure { len ≤ self.old.sure }
         ensures { IsCut true self.old len self.new }
     {
-        self.ready = None;
+        self.unflush();
         self.bytes.cut(len);
         self.sure = len;
     }
@@ -91,22 +108,25 @@ impl MemFile {
         ensures torn { IsTornAt true self.old len self.new }
         ensures bytes { self.new.bytes ≡ self.old.bytes }
     {
+        self.unflush();
         self.sure = len;
     }
 
     pub(crate) fn flush(&mut self) -> Result<(), NoMemory>
         ensures flushed { OnOk result (self.new.flushed ≡ true) }
+        ensures unflushed { OnErr result (self.new.flushed ≡ false) }
         ensures same { IsSame true self.old self.new }
     {
-        self.ready = None;
-        self.ready = Some(self.bytes.share(self.sealed)?);
+        self.unflush();
+        self.ready = Some(self.bytes.share(self.id, self.sealed)?);
         Ok(())
     }
 
     pub(crate) fn seal(&mut self) -> MemSeal
         requires flushed { self.old.flushed ≡ true }
         requires no_tail { HasNoTail true self.old }
-        ensures bytes { result ≡ self.old.bytes }
+        ensures id { result.id ≡ self.old.id }
+        ensures bytes { result.bytes ≡ self.old.bytes }
         ensures sealed { IsSealed true self.old self.new }
     {
         self.sealed = self.sure;
@@ -118,15 +138,5 @@ impl MemFile {
         ensures { into.new ≡ slice_range self.now.bytes at (at + length into.old) }
     {
         self.bytes.read(at, into);
-    }
-}
-
-#[cfg(test)]
-impl MemFile {
-    // How many bytes it has, sure or not.
-    pub(crate) fn all(&self) -> u64
-        ensures { result ≡ length self.now.bytes }
-    {
-        self.bytes.len()
     }
 }

@@ -1,6 +1,7 @@
 //! A store in memory, whose faults are planned.
-ghost use Rattle.std.specs.Prelude.{◌≡◌, ℕ, ◌+◌, ◌<◌, ◌≤◌, ◌^◌, ◌++◌, ◌↔◌, true, length, take, slice_range, IfOk, IfSome, IsSome, IsErr, OnOk, OnErr, IsErrOf};
-ghost use Rattle.hq_value.specs.Causes.{Rose, raised};
+ghost use Rattle.std.specs.Prelude.{◌≡◌, ℕ, ◌+◌, ◌<◌, ◌≤◌, ◌^◌, ◌++◌, ◌↔◌, ◌⊎◌, true, length, take, slice_range, IfOk, IfSome, IsSome, IsErr, OnOk, OnErr, IsErrOf};
+ghost use Rattle.hq_value.specs.Causes.{Rose, GoesOn, GoesOnGiving, raised};
+ghost use Rattle.hq_store.specs.Kept.{ChangesOnly, KeepsSeal, untold};
 
 use crate::mem_file::MemFile;
 use crate::mem_seal::MemSeal;
@@ -10,7 +11,8 @@ use std::alloc::Global;
 use std::marker::Model;
 
 /// A call that is planned to fail. Calls of `create`, `append`, `cut`, `flush`, `read` and `read_own` are counted
-/// from 1. An append that fails adds its first `tail` bytes, or all of them where there are fewer.
+/// from 1. An append that fails adds its first `tail` bytes, or all of them where there are fewer; where there is no
+/// memory for these it adds none, and fails all the same.
 #[derive(Clone, Copy, Debug, PartialEq, Eq)]
 pub struct Planned {
     pub call: u64,
@@ -70,7 +72,7 @@ impl MemStore {
         ensures given { self.new.given ≡ self.old.given }
 
         ensures cause { IsSome result → Rose self.old.faults self.new.faults }
-        ensures never_falls { self.old.faults ≤ self.new.faults }
+        ensures later { self.old.faults ≤ self.new.faults }
         ensures steady { NoFailureLeft self.old → self.new.faults ≡ self.old.faults }
         ensures stays_sound { NoFailureLeft self.old → NoFailureLeft self.new }
     {
@@ -83,15 +85,14 @@ impl MemStore {
     }
 
     fn give(&mut self, n: usize)
-        ensures given { self.new ≡ record self.old { given = raised self.old.given n } }
-        ensures never_falls { self.old.given ≤ self.new.given }
+        ensures { self.new ≡ record self.old { given = raised self.old.given n } }
     {
         self.given = self.given.saturating_add(n as u64);
     }
 }
 
 impl Store for MemStore {
-    ghost use Rattle.hq_store.specs.FileStep.{HasNoTail, IsFresh, IsAppended, IsTornAt, IsCut, IsSame, IsSealed};
+    ghost use Rattle.hq_store.specs.FileStep.{HasNoTail, IsFresh, IsAppended, IsTornAt, IsCut, IsSame, IsSealed, StaysUnflushed};
     ghost use Rattle.hq_store.specs.MemPlan.{next_tail, IsCounted, NoFailureLeft};
 
     type File = MemFile;
@@ -104,14 +105,14 @@ impl Store for MemStore {
 
     ghost sound = { NoFailureLeft };
 
-    fn create(&mut self, _: FileId) -> Result<MemFile, StoreFault>
-        ensures fresh { IfOk result (λ file. IsFresh true file) }
+    ghost kept = { λ s. untold };
+
+    fn create(&mut self, id: FileId) -> Result<MemFile, StoreFault>
+        ensures fresh { IfOk result (λ file. IsFresh true id file) }
 
         ensures cause { IsErrOf result StoreFault.Failed → Rose self.old.faults self.new.faults }
-        ensures never_falls { self.old.faults ≤ self.new.faults }
-        ensures steady { NoFailureLeft self.old → self.new.faults ≡ self.old.faults }
-        ensures stays_sound { NoFailureLeft self.old → NoFailureLeft self.new }
-        ensures given { self.new.given ≡ self.old.given }
+        ensures counts { GoesOn (λ s. s.faults) (λ s. s.given) NoFailureLeft self.old self.new }
+        ensures kept { ChangesOnly id 0 untold untold }
 
         // Just a planned call fails.
         ensures counted { IsCounted self.old self.new }
@@ -119,7 +120,7 @@ impl Store for MemStore {
     {
         match self.count() {
             Some(_) => Err(StoreFault::Failed),
-            None => Ok(MemFile::new(self.alloc)?),
+            None => Ok(MemFile::new(self.alloc, id)?),
         }
     }
 
@@ -129,23 +130,21 @@ impl Store for MemStore {
         ensures fits { OnOk result (file.new.sure < 2 ^ 64) }
         ensures torn { IsErrOf result StoreFault.Failed → IsTornAt true file.old file.old.sure file.new }
         ensures same { IsErrOf result StoreFault.NoMemory → IsSame true file.old file.new }
+        ensures unflushed { StaysUnflushed file.old file.new }
 
         ensures cause { IsErrOf result StoreFault.Failed → Rose self.old.faults self.new.faults }
-        ensures never_falls { self.old.faults ≤ self.new.faults }
-        ensures steady { NoFailureLeft self.old → self.new.faults ≡ self.old.faults }
-        ensures stays_sound { NoFailureLeft self.old → NoFailureLeft self.new }
-        ensures given { self.new.given ≡ self.old.given }
+        ensures counts { GoesOn (λ s. s.faults) (λ s. s.given) NoFailureLeft self.old self.new }
+        ensures kept { ChangesOnly file.old.id file.old.sealed untold untold }
 
-        // Just a planned call fails, and adds its tail. It may find no memory for that too.
+        // Just a planned call fails, and adds its tail, or nothing without memory for it.
         ensures counted { IsCounted self.old self.new }
-        ensures planned { IsSome (next_tail self.old) → IsErr result }
-        ensures unplanned { IsErrOf result StoreFault.Failed → IsSome (next_tail self.old) }
-        ensures tail { IsErrOf result StoreFault.Failed
-            → IfSome (next_tail self.old) (λ tail. file.new.bytes ≡ file.old.bytes ++ take tail bytes.now) }
+        ensures planned { IsErrOf result StoreFault.Failed ↔ IsSome (next_tail self.old) }
+        ensures tail { IsErrOf result StoreFault.Failed → IfSome (next_tail self.old) (λ tail.
+            (file.new.bytes ≡ file.old.bytes ++ take tail bytes.now) ⊎ (file.new.bytes ≡ file.old.bytes)) }
     {
         match self.count() {
             Some(tail) => {
-                file.tear(first(bytes, tail))?;
+                file.tear(first(bytes, tail));
                 Err(StoreFault::Failed)
             }
             None => {
@@ -156,16 +155,14 @@ impl Store for MemStore {
     }
 
     fn cut(&mut self, file: &mut MemFile, len: u64) -> Result<(), Failed>
-        requires kept { file.old.sealed ≤ len }
+        requires above { file.old.sealed ≤ len }
         requires sure { len ≤ file.old.sure }
         ensures cut { OnOk result (IsCut true file.old len file.new) }
         ensures torn { OnErr result (IsTornAt true file.old len file.new) }
 
         ensures cause { OnErr result (Rose self.old.faults self.new.faults) }
-        ensures never_falls { self.old.faults ≤ self.new.faults }
-        ensures steady { NoFailureLeft self.old → self.new.faults ≡ self.old.faults }
-        ensures stays_sound { NoFailureLeft self.old → NoFailureLeft self.new }
-        ensures given { self.new.given ≡ self.old.given }
+        ensures counts { GoesOn (λ s. s.faults) (λ s. s.given) NoFailureLeft self.old self.new }
+        ensures kept { ChangesOnly file.old.id file.old.sealed untold untold }
 
         // Just a planned call fails, and changes no byte.
         ensures counted { IsCounted self.old self.new }
@@ -186,13 +183,12 @@ impl Store for MemStore {
 
     fn flush(&mut self, file: &mut MemFile) -> Result<(), StoreFault>
         ensures flushed { OnOk result (file.new.flushed ≡ true) }
+        ensures unflushed { OnErr result (StaysUnflushed file.old file.new) }
         ensures same { IsSame true file.old file.new }
 
         ensures cause { IsErrOf result StoreFault.Failed → Rose self.old.faults self.new.faults }
-        ensures never_falls { self.old.faults ≤ self.new.faults }
-        ensures steady { NoFailureLeft self.old → self.new.faults ≡ self.old.faults }
-        ensures stays_sound { NoFailureLeft self.old → NoFailureLeft self.new }
-        ensures given { self.new.given ≡ self.old.given }
+        ensures counts { GoesOn (λ s. s.faults) (λ s. s.given) NoFailureLeft self.old self.new }
+        ensures kept { ChangesOnly file.old.id file.old.sealed untold untold }
 
         // Just a planned call fails.
         ensures counted { IsCounted self.old self.new }
@@ -210,13 +206,15 @@ impl Store for MemStore {
     fn seal(&mut self, file: &mut MemFile) -> MemSeal
         requires flushed { file.old.flushed ≡ true }
         requires no_tail { HasNoTail true file.old }
-        ensures bytes { result ≡ file.old.bytes }
-        ensures len { length result ≡ file.old.sure }
+        ensures id { result.id ≡ file.old.id }
+        ensures bytes { result.bytes ≡ file.old.bytes }
+        ensures len { length result.bytes ≡ file.old.sure }
         ensures sealed { IsSealed true file.old file.new }
 
         ensures no_fault { self.new.faults ≡ self.old.faults }
-        ensures stays_sound { NoFailureLeft self.old → NoFailureLeft self.new }
-        ensures given { self.new.given ≡ self.old.given }
+        ensures counts { GoesOn (λ s. s.faults) (λ s. s.given) NoFailureLeft self.old self.new }
+        ensures kept { ChangesOnly file.old.id file.old.sealed untold untold }
+        ensures kept_seal { KeepsSeal true (record { id = result.id; bytes = result.bytes; len = length result.bytes }) untold }
 
         // It isn't counted.
         ensures uncounted { self.new ≡ self.old }
@@ -225,16 +223,13 @@ impl Store for MemStore {
     }
 
     fn read(&mut self, seal: &MemSeal, at: u64, into: &mut [u8]) -> Result<(), Failed>
-        requires range { at + length into.old ≤ length seal.now }
-        ensures bytes { OnOk result (into.new ≡ slice_range seal.now at (at + length into.old)) }
+        requires range { at + length into.old ≤ length seal.now.bytes }
+        ensures bytes { OnOk result (into.new ≡ slice_range seal.now.bytes at (at + length into.old)) }
 
         ensures cause { OnErr result (Rose self.old.faults self.new.faults) }
-        ensures never_falls { self.old.faults ≤ self.new.faults }
-        ensures steady { NoFailureLeft self.old → self.new.faults ≡ self.old.faults }
-        ensures stays_sound { NoFailureLeft self.old → NoFailureLeft self.new }
-        ensures given { OnOk result (self.new.given ≡ raised self.old.given (length into.old)) }
-        ensures none_given { OnErr result (self.new.given ≡ self.old.given) }
-        ensures given_never_falls { self.old.given ≤ self.new.given }
+        ensures gave { OnOk result (GoesOnGiving (λ s. s.faults) (λ s. s.given) NoFailureLeft (length into.old) self.old self.new) }
+        ensures gave_none { OnErr result (GoesOn (λ s. s.faults) (λ s. s.given) NoFailureLeft self.old self.new) }
+        ensures kept { untold ≡ untold }
 
         // Just a planned call fails, and gives nothing.
         ensures counted { IsCounted self.old self.new }
@@ -256,12 +251,9 @@ impl Store for MemStore {
         ensures bytes { OnOk result (into.new ≡ slice_range file.now.bytes at (at + length into.old)) }
 
         ensures cause { OnErr result (Rose self.old.faults self.new.faults) }
-        ensures never_falls { self.old.faults ≤ self.new.faults }
-        ensures steady { NoFailureLeft self.old → self.new.faults ≡ self.old.faults }
-        ensures stays_sound { NoFailureLeft self.old → NoFailureLeft self.new }
-        ensures given { OnOk result (self.new.given ≡ raised self.old.given (length into.old)) }
-        ensures none_given { OnErr result (self.new.given ≡ self.old.given) }
-        ensures given_never_falls { self.old.given ≤ self.new.given }
+        ensures gave { OnOk result (GoesOnGiving (λ s. s.faults) (λ s. s.given) NoFailureLeft (length into.old) self.old self.new) }
+        ensures gave_none { OnErr result (GoesOn (λ s. s.faults) (λ s. s.given) NoFailureLeft self.old self.new) }
+        ensures kept { untold ≡ untold }
 
         // Just a planned call fails, and gives nothing.
         ensures counted { IsCounted self.old self.new }

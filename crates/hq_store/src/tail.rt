@@ -1,8 +1,8 @@
-//! The bytes behind the full pieces: runs, which seals share, and unshared bytes.
+//! The bytes behind the full pages: runs, which seals share, and unshared bytes.
 ghost use Rattle.std.specs.Prelude.{◌≡◌, ◌+◌, ◌<◌, ◌≤◌, ◌++◌, ℕ, List, [], ◌∷◌, length, take, slice_index_or, vec_len, vec_capacity, IfOk, OnOk};
-ghost use Rattle.hq_store.specs.Pieces.{flat, joined, IsRunAt};
+ghost use Rattle.hq_store.specs.Pages.{flat, joined, IsRunAt};
 
-use crate::pieces::PIECE;
+use crate::pages::PAGE;
 use bytes::Bytes;
 use hq_value::NoMemory;
 use std::alloc::{AllocFailed, Global};
@@ -34,7 +34,7 @@ fn find_spot(runs: &[Bytes], at: usize) -> Spot
     }
 }
 
-/// The bytes from `at` on, up to the end of their run. All runs together are shorter than a piece.
+/// The bytes from `at` on, up to the end of their run. All runs together are shorter than a page.
 pub(crate) fn run_in_tail<'a>(runs: &'a [Bytes], unshared: &'a [u8], at: usize) -> &'a [u8]
     requires { at < length (joined runs.now unshared.now) }
     ensures run { IsRunAt (joined runs.now unshared.now) at result.now }
@@ -48,22 +48,22 @@ pub(crate) fn run_in_tail<'a>(runs: &'a [Bytes], unshared: &'a [u8], at: usize) 
     }
 }
 
-/// A piece of all these bytes.
+/// A page of all these bytes.
 pub(crate) fn gather(
     alloc: Global,
     runs: &[Bytes],
     unshared: &[u8],
     head: &[u8],
 ) -> Result<Bytes, NoMemory>
-    ensures { IfOk result (λ piece. piece ≡ joined runs.now unshared.now ++ head.now) }
+    ensures { IfOk result (λ page. page ≡ joined runs.now unshared.now ++ head.now) }
 {
-    let mut piece = Vec::with_capacity(alloc, PIECE)?;
+    let mut page = Vec::with_capacity(alloc, PAGE)?;
     for run in runs {
-        piece.extend_from_slice(run)?;
+        page.extend_from_slice(run)?;
     }
-    piece.extend_from_slice(unshared)?;
-    piece.extend_from_slice(head)?;
-    Ok(Bytes::from_vec(piece)?)
+    page.extend_from_slice(unshared)?;
+    page.extend_from_slice(head)?;
+    Ok(Bytes::from_vec(page)?)
 }
 
 /// Makes the unshared bytes a run. No byte is copied or changes.

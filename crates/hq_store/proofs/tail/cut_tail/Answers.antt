@@ -1,6 +1,6 @@
 -- A cut keeps the runs before it, and the front of the run or of the unshared bytes in which it lies.
 use Rattle.std.proofs.Common.{◌≡◌, ◌∙◌, ◌+◌, ◌<◌, List, ℕ, length, take, get_or, ap, arith}
-use Rattle.hq_store.specs.Pieces.{flat}
+use Rattle.hq_store.specs.Pages.{flat}
 use Rattle.hq_store.proofs.Joined.{length-first, cut_at_run, cut_behind}
 use Rattle.hq_store.proofs.tail.cut_tail.Goals as goal
 

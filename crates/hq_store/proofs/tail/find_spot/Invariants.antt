@@ -1,6 +1,6 @@
 -- The runs so far end within the bytes before the place.
 use Rattle.std.proofs.Common.{◌≡◌, ◌+◌, length, take}
-use Rattle.hq_store.specs.Pieces.{flat}
+use Rattle.hq_store.specs.Pages.{flat}
 use Rattle.hq_store.proofs.tail.find_spot.Given as goal
 
 abbrev pub invariant-loop-place : goal.invariant-loop-place

@@ -1,6 +1,6 @@
 -- The end of a run or of the unshared bytes lies in the bytes.
 use Rattle.std.proofs.Common.{◌∙◌, ◌+◌, ◌<◌, ◌≤◌, List, ℕ, length, take, drop, get_or, ap, arith}
-use Rattle.hq_store.specs.Pieces.{flat}
+use Rattle.hq_store.specs.Pages.{flat}
 use Rattle.hq_store.proofs.Joined.{length-first, first_within, run_in_part, run_before, run_behind_all, run_to_end}
 use Rattle.hq_store.proofs.tail.run_in_tail.Goals as goal
 

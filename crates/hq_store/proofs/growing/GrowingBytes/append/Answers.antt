@@ -1,6 +1,6 @@
--- The bytes behind the full pieces are counted by what is before them.
+-- The bytes behind the full pages are counted by what is before them.
 use Rattle.std.proofs.Common.{◌≡◌, length, ap, arith}
-use Rattle.hq_store.specs.Pieces.{Grown, flat}
+use Rattle.hq_store.specs.Pages.{Grown, flat}
 use Rattle.hq_store.proofs.Joined.{length-bytes_in}
 use Rattle.hq_store.proofs.growing.GrowingBytes.append.Goals as goal
 
@@ -8,7 +8,7 @@ pub overflow_mul-tail : goal.overflow_mul-tail
 overflow_mul-tail c =
     omega (
       arith,
-      length-bytes_in 4096 c.self.inside.groups.items c.self.inside.pieces.items c.self.inside.runs.items c.self.inside.unshared.items c.self.invariant.1,
+      length-bytes_in 4096 c.self.inside.groups.items c.self.inside.pages.items c.self.inside.runs.items c.self.inside.unshared.items c.self.invariant.1,
     )
 
 pub overflow_sub-tail-2 : goal.overflow_sub-tail-2
@@ -16,7 +16,7 @@ overflow_sub-tail-2 c =
     let fixed : length (flat (flat c.self.inside.groups.items)) ≡ c.args.self.now.fixed = ap (λ (g : Grown). g.fixed) c.self.view_is in
     omega (
       arith,
-      length-bytes_in 4096 c.self.inside.groups.items c.self.inside.pieces.items c.self.inside.runs.items c.self.inside.unshared.items c.self.invariant.1,
+      length-bytes_in 4096 c.self.inside.groups.items c.self.inside.pages.items c.self.inside.runs.items c.self.inside.unshared.items c.self.invariant.1,
     )
 
 pub add-requires-clause-tail : goal.add-requires-clause-tail
@@ -24,7 +24,7 @@ add-requires-clause-tail c =
     let fixed : length (flat (flat c.self.inside.groups.items)) ≡ c.args.self.now.fixed = ap (λ (g : Grown). g.fixed) c.self.view_is in
     omega (
       arith,
-      length-bytes_in 4096 c.self.inside.groups.items c.self.inside.pieces.items c.self.inside.runs.items c.self.inside.unshared.items c.self.invariant.1,
+      length-bytes_in 4096 c.self.inside.groups.items c.self.inside.pages.items c.self.inside.runs.items c.self.inside.unshared.items c.self.invariant.1,
     )
 
 pub add-requires-clause-short : goal.add-requires-clause-short
@@ -32,5 +32,5 @@ add-requires-clause-short c =
     let fixed : length (flat (flat c.self.inside.groups.items)) ≡ c.args.self.now.fixed = ap (λ (g : Grown). g.fixed) c.self.view_is in
     omega (
       arith,
-      length-bytes_in 4096 c.self.inside.groups.items c.self.inside.pieces.items c.self.inside.runs.items c.self.inside.unshared.items c.self.invariant.1,
+      length-bytes_in 4096 c.self.inside.groups.items c.self.inside.pages.items c.self.inside.runs.items c.self.inside.unshared.items c.self.invariant.1,
     )

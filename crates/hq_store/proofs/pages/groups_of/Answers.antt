@@ -3,7 +3,7 @@ use Rattle.std.proofs.Common.{◌≡◌, ◌∙◌, ◌+◌, ◌++◌, ◌∷◌
 use Rattle.std.proofs.lemmas.List.{length_push}
 use Rattle.std.proofs.lemmas.List.Elements.{All-push}
 use Rattle.hq_store.proofs.Joined.{length-joined, part_moved, flat_taken}
-use Rattle.hq_store.proofs.pieces.groups_of.Goals as goal
+use Rattle.hq_store.proofs.pages.groups_of.Goals as goal
 
 pub split_at-requires : goal.split_at-requires
 split_at-requires c = omega (arith, length-joined 64 c.loop.made.items c.loop.rest.now c.loop.invariant.0, ap length c.loop.invariant.2)
@@ -19,6 +19,6 @@ loop-preserved c =
       part_moved 64 made _ group c.loop.rest.now _ pushed (c.in_ok-new.ensures ∙ c.split_at.ensures.front) c.split_at.ensures.back ∙ c.loop.invariant.2,
     )
 
-pub returns-clause-pieces : goal.returns-clause-pieces
-returns-clause-pieces c =
-    flat_taken 64 c.args.count c.loop.made.items c.loop.rest.now c.args.pieces.now c.loop.invariant.0 (omega arith) c.loop.invariant.2
+pub returns-clause-pages : goal.returns-clause-pages
+returns-clause-pages c =
+    flat_taken 64 c.args.count c.loop.made.items c.loop.rest.now c.args.pages.now c.loop.invariant.0 (omega arith) c.loop.invariant.2
