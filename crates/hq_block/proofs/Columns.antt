@@ -3,14 +3,10 @@ use Rattle.std.proofs.Common.{◌≡◌, ℕ, ◌+◌, ◌/◌, ◌%◌, ◌^◌
 use Rattle.std.proofs.lemmas.List.{drop_more, drop_all}
 use Rattle.std.proofs.lemmas.Nat.{shr-shr}
 use Rattle.hq_value.specs.declared.value.Value.{Value}
-use Rattle.hq_value.specs.declared.table.Kind.{Kind}
+use Rattle.hq_value.specs.declared.kind.Kind.{Kind}
 use Rattle.hq_block.specs.declared.fault.Misread.{Misread}
 use Rattle.hq_block.specs.declared.fault.Misread.TheVariants as misread
-use Rattle.hq_block.specs.Reading.{◌>>=◌, Fails, column_at, columns_at}
-
--- what was read before, and what is still read
-abbrev pub with_front : {A : Type 0} → List A → Option (List A × List ℕ) → Option (List A × List ℕ)
-with_front front read = read >>= λ x. Some (front ++ x.0, x.1)
+use Rattle.hq_block.specs.Reading.{◌>>=◌, Fails, column_at, columns_at, with_front}
 
 pub with_front-push : {A : Type 0} (front : List A) (first : A) (read : Option (List A × List ℕ)) → with_front front (read >>= λ x. Some (first ∷ x.0, x.1)) ≡ with_front (front ++ first ∷ []) read
 with_front-push {A} front first (Some x) = ap (λ (items : List A). Some (items, x.1)) (sym (append_assoc front (first ∷ []) x.0))

@@ -5,8 +5,8 @@ use Rattle.std.specs.List.{AllByRecursion}
 use Rattle.std.proofs.lemmas.List.{take_at, drop_at, take-append-drop}
 use Rattle.std.proofs.lemmas.List.Concat.{flat_map-append}
 use Rattle.hq_value.specs.declared.value.Value.{Value}
-use Rattle.hq_value.specs.declared.table.Kind.{Kind}
-use Rattle.hq_block.specs.Block.{IsBlock, version_1, FileRows}
+use Rattle.hq_value.specs.declared.kind.Kind.{Kind}
+use Rattle.hq_block.specs.Block.{IsBlock, FileRows}
 use Rattle.hq_block.proofs.BlockLaws.{blocks_are_apart}
 
 -- a block's rows and bytes
@@ -23,7 +23,7 @@ abbrev rows_of : List Block → List (List Value)
 rows_of = flat_map (λ (block : Block). block.0)
 
 some_bytes : (kinds : List Kind) (rows : List (List Value)) (bytes : List ℕ) → IsBlock kinds rows bytes → (rest : List ℕ) → [] ≡ bytes ++ rest → ⊥
-some_bytes kinds rows bytes (version_1 is) rest e = let begun = e ∙ ap (λ (l : List ℕ). l ++ rest) is.spelled in cc
+some_bytes kinds rows bytes is rest e = let begun = e ∙ ap (λ (l : List ℕ). l ++ rest) is.is.spelled in cc
 
 same_rows : (kinds : List Kind) (xs ys : List Block) → AreBlocks kinds xs → AreBlocks kinds ys → bytes_of xs ≡ bytes_of ys → rows_of xs ≡ rows_of ys
 same_rows kinds [] [] ok also same = refl

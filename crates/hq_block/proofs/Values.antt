@@ -10,9 +10,10 @@ use Rattle.std.proofs.lemmas.Str.{IsUtf8-from_is_utf8, is_utf8-from_IsUtf8}
 use mir.Facts.{sfits_to_z, Fits-of_z}
 use Rattle.hq_value.specs.declared.value.Value.{Value}
 use Rattle.hq_value.specs.declared.value.Value.TheVariants as variant
-use Rattle.hq_value.specs.declared.table.Kind.{Kind}
-use Rattle.hq_value.specs.declared.table.Kind.TheVariants as kind
-use Rattle.hq_block.specs.Row.{IsOfKind, IsInRange, value_bytes, null_flag}
+use Rattle.hq_value.specs.declared.kind.Kind.{Kind}
+use Rattle.hq_value.specs.declared.kind.Kind.TheVariants as kind
+use Rattle.hq_value.specs.Kinds.{IsOfKind}
+use Rattle.hq_block.specs.Row.{IsInRange, value_bytes, null_flag}
 use Rattle.hq_block.specs.Reading.{number_at, bool_at, int_at, text_at, value_at, column_at}
 use Rattle.hq_block.proofs.Flags.{IsBytes, IsBytes-tail}
 use Rattle.hq_block.proofs.Numbers.{IsBytes-drop, Takes, bind_some, guard_none, guard_some, some_is, wide16, wide64, number_takes, number_again}
@@ -66,7 +67,7 @@ text_takes bytes x fits e =
     record { parts = subst (λ (k : ℕ). bytes ≡ (to_be_bytes w16 k ++ take n rest) ++ drop n rest) (sym len) whole; rest_fits = IsBytes-drop n rest t.0.rest_fits } in
     subst (λ (y : Value × List ℕ). TakesValue kind.Text bytes y.0 y.1) (some_is (variant.Text (take n rest), drop n rest) x valid.1) (record { takes = taken; of_kind = tt; in_range = (omega arith, IsUtf8-from_is_utf8 (take n rest) valid.0); not_null = refl })
 
-value_takes : (k : Kind) (bytes : List ℕ) (x : Value × List ℕ) → IsBytes bytes → value_at k bytes ≡ Some x → TakesValue k bytes x.0 x.1
+pub value_takes : (k : Kind) (bytes : List ℕ) (x : Value × List ℕ) → IsBytes bytes → value_at k bytes ≡ Some x → TakesValue k bytes x.0 x.1
 unfolding value_at
 value_takes kind.Bool = bool_takes
 value_takes kind.Int = int_takes
@@ -84,7 +85,7 @@ int_again : (n : ℤ) (rest : List ℕ) → FitsSigned w64 n → int_at (value_b
 unfolding int_at
 int_again n rest fits = rw (number_again w64 (2 ^ 64) wide64 (cast_unsigned w64 n) rest (Fits-of_z {w = w64} fits).fits, to_z-of_z w64 n fits) refl
 
-value_again : (k : Kind) (value : Value) (rest : List ℕ) → IsOfKind k value → IsInRange value → null_flag value ≡ 0 → value_at k (value_bytes value ++ rest) ≡ Some (value, rest)
+pub value_again : (k : Kind) (value : Value) (rest : List ℕ) → IsOfKind k value → IsInRange value → null_flag value ≡ 0 → value_at k (value_bytes value ++ rest) ≡ Some (value, rest)
 unfolding value_at bool_at
 value_again k variant.Null rest of_kind in_range not_null = absurd cc
 value_again kind.Bool (variant.Bool false) rest of_kind in_range not_null = refl

@@ -1,28 +1,14 @@
 -- Rows in bytes.
---     IsOfKind kind value       the value is NULL or of the kind
---     Fits kinds row            as many values as kinds, each NULL or of its column's kind
 --     IsRow kinds row bytes     the bytes spell the row
 --     row_bytes row             the spelling of a row
 --     row_length row            how many bytes that takes
 use Rattle.std.specs.Prelude.{◌≡◌, ℕ, zero, suc, ◌+◌, ◌*◌, ◌/◌, ◌%◌, ◌≤◌, true, false, List, [], ◌∷◌, ◌++◌, length, flat_map, FitsSigned, IsUtf8}
-use Rattle.std.specs.List.{AllZip, AllByRecursion}
+use Rattle.std.specs.List.{AllByRecursion}
 use Rattle.std.specs.Int.{to_be_bytes, cast_unsigned, w16, w64}
 use Rattle.hq_value.specs.declared.value.Value.{Value}
 use Rattle.hq_value.specs.declared.value.Value.TheVariants as variant
-use Rattle.hq_value.specs.declared.table.Kind.{Kind}
-use Rattle.hq_value.specs.declared.table.Kind.TheVariants as kind
-
--- the value is NULL or of the kind
-abbrev pub IsOfKind : Kind → Value → Type 0
-IsOfKind k variant.Null = Unit {0}
-IsOfKind kind.Bool (variant.Bool b) = Unit {0}
-IsOfKind kind.Int (variant.Int n) = Unit {0}
-IsOfKind kind.Text (variant.Text text) = Unit {0}
-IsOfKind _ _ = ⊥
-
--- as many values as kinds, each NULL or of its column's kind
-abbrev pub Fits : List Kind → List Value → Type 0
-Fits = AllZip IsOfKind
+use Rattle.hq_value.specs.declared.kind.Kind.{Kind}
+use Rattle.hq_value.specs.Kinds.{Fits}
 
 -- an integer has 64 bits, a text is UTF-8 of at most 1,000 bytes
 abbrev pub IsInRange : Value → Type 0

@@ -56,6 +56,16 @@ impl<T: Drop> From<AllocFailed<T>> for Misread {
     }
 }
 
+impl From<OutOfMemory> for Misread {
+    ghost use Rattle.hq_block.specs.declared.fault.Misread.TheVariants.{NoMemory};
+
+    ghost from_gives = { λ _ e. e ≡ NoMemory };
+
+    fn from(_: OutOfMemory) -> Self {
+        Misread::NoMemory
+    }
+}
+
 impl From<Misread> for RowFault {
     ghost use Rattle.hq_block.specs.Fault.{row_fault};
 

@@ -1,55 +1,49 @@
 //! The fields of rows and blocks, read from the front of bytes. Each reader gives its value and the bytes after it.
-ghost use Rattle.std.specs.Prelude.{◌≡◌, IfOk, OnOk, Some, string_bytes, true, false};
+ghost use Rattle.std.specs.Prelude.{◌≡◌, ◌≤◌, IfOk, OnOk, Some, length, true, false};
 ghost use Rattle.std.specs.Int.{w16, w32, w64};
 ghost use Rattle.std.specs.Str.{is_utf8};
-ghost use Rattle.hq_block.specs.Reading.{Gives, number_at, after, bool_at, int_at, text_at, value_at, column_at};
+ghost use Rattle.hq_block.specs.Reading.{Gives, Reads, number_at, after, byte_at, bool_at, int_at, text_at, value_at, column_at};
 
 use crate::fault::Misread;
-use hq_value::{Chars, Kind, Value};
+use hq_value::{Chars, Kind, Value, read_u16, read_u32, read_u64};
 use std::alloc::Global;
 
 /// The bytes after these very bytes.
-pub fn after<'a>(expected: &[u8], bytes: &'a [u8]) -> Result<&'a [u8], Misread>
-    ensures { Gives (λ x. x.now) result (after expected.now bytes.now) }
+pub(crate) fn after<'a>(expected: &[u8], bytes: &'a [u8]) -> Option<&'a [u8]>
+    ensures { Reads (λ x. x.now) result (after expected.now bytes.now) }
 {
     match bytes.strip_prefix(expected) {
-        Some(rest) => Ok(rest),
-        None => Err(Misread::Absent),
+        Some(rest) => Some(rest),
+        None => None,
     }
 }
 
-fn u16_at(bytes: &[u8]) -> Result<(u16, &[u8]), Misread>
-    ensures { Gives (λ x. (x.0, x.1.now)) result (number_at w16 bytes.now) }
+pub(crate) fn byte_at(bytes: &[u8]) -> Option<(u8, &[u8])>
+    ensures { Reads (λ x. (x.0, x.1.now)) result (byte_at bytes.now) }
 {
-    if bytes.len() < 2 {
-        return Err(Misread::Absent);
-    }
-    let (front, rest) = bytes.split_at(2);
-    Ok((u16::from_be_bytes([front[0], front[1]]), rest))
+    let (byte, rest) = bytes.split_first()?;
+    Some((*byte, rest))
 }
 
-pub fn u32_at(bytes: &[u8]) -> Result<(u32, &[u8]), Misread>
-    ensures { Gives (λ x. (x.0, x.1.now)) result (number_at w32 bytes.now) }
+pub(crate) fn u16_at(bytes: &[u8]) -> Option<(u16, &[u8])>
+    ensures { Reads (λ x. (x.0, x.1.now)) result (number_at w16 bytes.now) }
 {
-    if bytes.len() < 4 {
-        return Err(Misread::Absent);
-    }
-    let (front, rest) = bytes.split_at(4);
-    let number = u32::from_be_bytes([front[0], front[1], front[2], front[3]]);
-    Ok((number, rest))
+    let number = read_u16(bytes, 0)?;
+    Some((number, &bytes[2..]))
 }
 
-fn u64_at(bytes: &[u8]) -> Result<(u64, &[u8]), Misread>
-    ensures { Gives (λ x. (x.0, x.1.now)) result (number_at w64 bytes.now) }
+pub(crate) fn u32_at(bytes: &[u8]) -> Option<(u32, &[u8])>
+    ensures { Reads (λ x. (x.0, x.1.now)) result (number_at w32 bytes.now) }
 {
-    if bytes.len() < 8 {
-        return Err(Misread::Absent);
-    }
-    let (front, rest) = bytes.split_at(8);
-    let number = u64::from_be_bytes([
-        front[0], front[1], front[2], front[3], front[4], front[5], front[6], front[7],
-    ]);
-    Ok((number, rest))
+    let number = read_u32(bytes, 0)?;
+    Some((number, &bytes[4..]))
+}
+
+fn u64_at(bytes: &[u8]) -> Option<(u64, &[u8])>
+    ensures { Reads (λ x. (x.0, x.1.now)) result (number_at w64 bytes.now) }
+{
+    let number = read_u64(bytes, 0)?;
+    Some((number, &bytes[8..]))
 }
 
 #[tactic(auto, unfolding(crate::specs::Reading::bool_at))]
@@ -67,37 +61,43 @@ fn bool_at(bytes: &[u8]) -> Result<(Value, &[u8]), Misread>
 fn int_at(bytes: &[u8]) -> Result<(Value, &[u8]), Misread>
     ensures { Gives (λ x. (x.0, x.1.now)) result (int_at bytes.now) }
 {
-    let (number, rest) = u64_at(bytes)?;
-    Ok((Value::Int(number.cast_signed()), rest))
+    match u64_at(bytes) {
+        Some((number, rest)) => Ok((Value::Int(number.cast_signed()), rest)),
+        None => Err(Misread::Absent),
+    }
 }
 
 #[tactic(auto, unfolding(crate::specs::Reading::text_at))]
 fn text_at(alloc: Global, bytes: &[u8]) -> Result<(Value, &[u8]), Misread>
     ensures { Gives (λ x. (x.0, x.1.now)) result (text_at bytes.now) }
 {
-    let (length, rest) = u16_at(bytes)?;
+    let Some((length, rest)) = u16_at(bytes) else {
+        return Err(Misread::Absent);
+    };
     let length = length as usize;
     if length > Chars::MOST || rest.len() < length {
         return Err(Misread::Absent);
     }
     let (text, rest) = rest.split_at(length);
     let text = text_of(alloc, text)?;
-    Ok((Value::Text(Chars::new(text)), rest))
+    Ok((Value::Text(text), rest))
 }
 
-fn text_of(alloc: Global, bytes: &[u8]) -> Result<String, Misread>
-    ensures ok { IfOk result (λ text. string_bytes text ≡ bytes.now) }
+fn text_of(alloc: Global, bytes: &[u8]) -> Result<Chars, Misread>
+    requires { length bytes.now ≤ 1000 }
+    ensures ok { IfOk result (λ text. text ≡ bytes.now) }
     ensures valid { OnOk result (is_utf8 bytes.now ≡ true) }
     ensures err { (result ≡ Err Misread.Absent) → is_utf8 bytes.now ≡ false }
 {
     match str::from_utf8(bytes) {
-        Ok(text) => Ok(String::from_str(alloc, text)?),
+        Ok(text) => Ok(Chars::from_str(alloc, text)?),
         Err(_) => Err(Misread::Absent),
     }
 }
 
+/// A value of the kind, which is not NULL.
 #[tactic(auto, unfolding(crate::specs::Reading::value_at))]
-fn value_at(alloc: Global, kind: Kind, bytes: &[u8]) -> Result<(Value, &[u8]), Misread>
+pub(crate) fn value_at(alloc: Global, kind: Kind, bytes: &[u8]) -> Result<(Value, &[u8]), Misread>
     ensures { Gives (λ x. (x.0, x.1.now)) result (value_at kind bytes.now) }
 {
     match kind {
@@ -109,7 +109,7 @@ fn value_at(alloc: Global, kind: Kind, bytes: &[u8]) -> Result<(Value, &[u8]), M
 
 /// A column's value: NULL, for which no bytes stand, or what stands next.
 #[tactic(auto, unfolding(crate::specs::Reading::column_at))]
-pub fn column_at(
+pub(crate) fn column_at(
     alloc: Global,
     kind: Kind,
     is_null: bool,

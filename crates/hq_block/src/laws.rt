@@ -1,9 +1,13 @@
 //! Laws of rows, blocks and files.
-ghost use Rattle.std.specs.Prelude.{◌≡◌, ◌<◌, ◌≤◌, ◌++◌, ℕ, [], List, length, take, drop, slice_index, slice_index_or, false, ◌/◌, ◌%◌, ◌^◌};
-ghost use Rattle.std.specs.List.{AllByRecursion};
+ghost use Rattle.std.specs.Prelude.{◌≡◌, ◌<◌, ◌≤◌, ◌++◌, ℕ, [], List, length, take, drop, slice_index, slice_index_or, true, false, All, ◌/◌, ◌%◌, ◌^◌};
+ghost use Rattle.std.specs.List.{AllByRecursion, list_all};
 ghost use Rattle.hq_value.specs.declared.value.Value.{Value as Datum};
 ghost use Rattle.hq_value.specs.declared.value.Value.TheVariants.{Bool as Flag};
-ghost use Rattle.hq_value.specs.declared.table.Kind.{Kind as Sort};
+ghost use Rattle.hq_value.specs.declared.kind.Kind.{Kind as Sort};
+ghost use Rattle.hq_block.specs.declared.head.BlockHead.{BlockHead as FoundHead};
+ghost use Rattle.hq_block.specs.declared.skip.ColumnTest.{ColumnTest as Test};
+ghost use Rattle.hq_block.specs.Heads.{HeadIs, HeadLength};
+ghost use Rattle.hq_block.specs.Skipping.{passes_test, skips};
 ghost use Rattle.hq_block.specs.Row.{IsRow, IsStorable, null_bitmap, null_flag};
 ghost use Rattle.hq_block.specs.Block.{IsBlock, FileRows, block_bytes, block_length, fitting_a_block, pack};
 
@@ -56,10 +60,29 @@ pub fn packed_rows_are_a_file()
         0 < length kinds → length kinds ≤ 64 → AllByRecursion (IsStorable kinds) rows → FileRows kinds (pack kinds rows) rows }
     ensures nothing { (kinds : List Sort) → pack kinds [] ≡ [] }
     ensures step { (kinds : List Sort) (rows : List (List Datum)) → 0 < length rows →
-        pack kinds rows ≡ block_bytes kinds (take (fitting_a_block rows) rows) ++ pack kinds (drop (fitting_a_block rows) rows) }
+        pack kinds rows ≡ block_bytes kinds (take (fitting_a_block kinds rows) rows) ++ pack kinds (drop (fitting_a_block kinds rows) rows) }
+{}
+
+/// A block begins with a head and bounds, which say how long it is, whatever follows it. What a head says is told by
+/// its bytes alone: the first 16 say how long it is with its bounds, and these say how long the block is.
+pub fn blocks_begin_with_heads()
+    ensures begins { (kinds : List Sort) (rows : List (List Datum)) (bytes more : List ℕ) → IsBlock kinds rows bytes →
+        (n : ℕ) × HeadLength (bytes ++ more) n × (n ≤ length bytes) ×
+        ((head : FoundHead) × HeadIs kinds head (take n bytes) × (head.length ≡ length bytes)) }
+    ensures first_16 { (bytes : List ℕ) (n : ℕ) → HeadLength bytes n → (16 ≤ length bytes) × HeadLength (take 16 bytes) n }
+    ensures onward { (bytes more : List ℕ) (n : ℕ) → HeadLength bytes n → HeadLength (bytes ++ more) n }
+    ensures one_length { (bytes : List ℕ) (m n : ℕ) → HeadLength bytes m → HeadLength bytes n → m ≡ n }
+    ensures one_head { (kinds : List Sort) (a b : FoundHead) (bytes : List ℕ) → HeadIs kinds a bytes → HeadIs kinds b bytes → a.length ≡ b.length }
+{}
+
+/// A block that is skipped has no row that passes all tests.
+pub fn skipped_blocks_have_no_row()
+    ensures { (kinds : List Sort) (rows : List (List Datum)) (bytes : List ℕ) (n : ℕ) (head : FoundHead) (tests : List Test) →
+        IsBlock kinds rows bytes → HeadIs kinds head (take n bytes) → skips tests head.bounds ≡ true →
+        All (λ row. list_all (λ test. passes_test test row) tests ≡ false) rows }
 {}
 
 /// A block is as long as is told before it is written.
 pub fn block_lengths()
-    ensures { (kinds : List Sort) (rows : List (List Datum)) → length (block_bytes kinds rows) ≡ block_length rows }
+    ensures { (kinds : List Sort) (rows : List (List Datum)) → length (block_bytes kinds rows) ≡ block_length kinds rows }
 {}

@@ -1,24 +1,28 @@
 //! Rows and blocks of rows in bytes.
 #![tactic(auto)]
 
+mod bounds;
 mod decode;
 mod encode;
 mod fault;
 mod fields;
+mod head;
 mod laws;
 mod nulls;
 mod put;
 mod read;
+mod skip;
 
-pub use decode::decode_block;
+pub use bounds::Bounds;
+pub use decode::{decode_block, decode_block_into};
 pub use encode::{encode_block, fitting_rows};
 pub use fault::{BlockFault, EncodeFault, RowFault};
+pub use head::{BlockHead, head_length, read_head};
 pub use laws::{
-    block_lengths, blocks_are_apart, files_begin_with_blocks, files_grow_by_blocks,
-    files_have_their_rows, nulls_have_their_bits, packed_rows_are_a_file, rows_are_apart,
+    block_lengths, blocks_are_apart, blocks_begin_with_heads, files_begin_with_blocks,
+    files_grow_by_blocks, files_have_their_rows, nulls_have_their_bits, packed_rows_are_a_file,
+    rows_are_apart, skipped_blocks_have_no_row,
 };
-pub use put::{fits, put_row, row_length};
+pub use put::{put_row, row_length};
 pub use read::read_row;
-
-#[cfg(test)]
-mod tests;
+pub use skip::{ColumnTest, skips};

@@ -6,7 +6,7 @@ ghost use Rattle.hq_block.specs.Reading.{low_number};
 use hq_value::{NoMemory, Value};
 
 /// As many bytes as the null bitmap of this many columns has.
-pub fn bitmap_length(columns: usize) -> usize
+pub(crate) fn bitmap_length(columns: usize) -> usize
     requires { columns < 2 ^ 63 }
     ensures { result ≡ bitmap_length columns }
 {
@@ -14,7 +14,7 @@ pub fn bitmap_length(columns: usize) -> usize
 }
 
 /// Adds the null bitmap. Without memory what stood before is still the front.
-pub fn put_nulls(out: &mut Vec<u8>, row: &[Value]) -> Result<(), NoMemory>
+pub(crate) fn put_nulls(out: &mut Vec<u8>, row: &[Value]) -> Result<(), NoMemory>
     ensures ok { OnOk result (out.new.items ≡ out.old.items ++ null_bitmap row.now) }
     ensures err { OnErr result (take (length out.old.items) out.new.items ≡ out.old.items) }
 {
@@ -50,7 +50,7 @@ fn null_flag(value: &Value) -> u8
 }
 
 /// Whether the flag of a column is set.
-pub fn is_null(nulls: &[u8], column: usize) -> bool
+pub(crate) fn is_null(nulls: &[u8], column: usize) -> bool
     requires { column < 8 * length nulls.now }
     ensures { result ≡ (low_number nulls.now / 2 ^ column % 2 == 1) }
 {
@@ -58,7 +58,7 @@ pub fn is_null(nulls: &[u8], column: usize) -> bool
 }
 
 /// Whether no flag is set past those of so many columns.
-pub fn ends_after(nulls: &[u8], columns: usize) -> bool
+pub(crate) fn ends_after(nulls: &[u8], columns: usize) -> bool
     requires { length nulls.now ≡ bitmap_length columns }
     ensures { result ≡ (low_number nulls.now / 2 ^ columns == 0) }
 {

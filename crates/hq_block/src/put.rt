@@ -1,11 +1,12 @@
 //! Rows written.
-ghost use Rattle.std.specs.Prelude.{◌≡◌, ◌≤◌, ◌<◌, ◌↔◌, ◌^◌, ◌++◌, IsTrue, length, take, flat_map, OnOk, OnErr};
+ghost use Rattle.std.specs.Prelude.{◌≡◌, ◌≤◌, ◌<◌, ◌^◌, ◌++◌, length, take, flat_map, OnOk, OnErr};
 ghost use Rattle.std.specs.List.{AllByRecursion};
-ghost use Rattle.hq_block.specs.Row.{Fits, IsOfKind, IsInRange, IsRow, value_bytes, row_bytes, row_length};
+ghost use Rattle.hq_value.specs.Kinds.{Fits};
+ghost use Rattle.hq_block.specs.Row.{IsInRange, IsRow, value_bytes, row_bytes, row_length};
 
 use crate::nulls::put_nulls;
 use byteorder::{BigEndian, ByteOrder};
-use hq_value::{Kind, Kinds, NoMemory, Row, Value};
+use hq_value::{Kinds, NoMemory, Row, Value};
 
 /// Adds the row's one spelling: the null bitmap and the values that are not NULL. Without memory nothing changes.
 pub fn put_row(out: &mut Vec<u8>, kinds: &Kinds, row: &Row) -> Result<(), NoMemory>
@@ -44,7 +45,7 @@ fn put_values(out: &mut Vec<u8>, row: &[Value]) -> Result<(), NoMemory>
     Ok(())
 }
 
-fn put_value(out: &mut Vec<u8>, value: &Value) -> Result<(), NoMemory>
+pub(crate) fn put_value(out: &mut Vec<u8>, value: &Value) -> Result<(), NoMemory>
     ensures appended { OnOk result (out.new.items ≡ out.old.items ++ value_bytes value.now) }
     ensures in_range { OnOk result (IsInRange value.now) }
     ensures err { OnErr result (take (length out.old.items) out.new.items ≡ out.old.items) }
@@ -79,45 +80,11 @@ fn put_text(out: &mut Vec<u8>, text: &str) -> Result<(), NoMemory>
 }
 
 /// Adds bytes. Without memory what stood before is still the front.
-pub fn put_bytes(out: &mut Vec<u8>, bytes: &[u8]) -> Result<(), NoMemory>
+pub(crate) fn put_bytes(out: &mut Vec<u8>, bytes: &[u8]) -> Result<(), NoMemory>
     ensures appended { OnOk result (out.new.items ≡ out.old.items ++ bytes.now) }
     ensures err { OnErr result (take (length out.old.items) out.new.items ≡ out.old.items) }
 {
-    match out.extend_from_slice(bytes) {
-        Ok(()) => Ok(()),
-        Err(_) => Err(NoMemory),
-    }
-}
-
-/// Whether a row fits the kinds: as many values as kinds, each NULL or of its column's kind.
-pub fn fits(kinds: &Kinds, row: &Row) -> bool
-    ensures { IsTrue result ↔ Fits kinds.now row.now }
-{
-    fit(kinds.as_slice(), row.as_slice())
-}
-
-fn fit(kinds: &[Kind], row: &[Value]) -> bool
-    ensures { IsTrue result ↔ Fits kinds.now row.now }
-{
-    let Some((kind, kinds)) = kinds.split_first() else {
-        return row.is_empty();
-    };
-    let Some((value, row)) = row.split_first() else {
-        return false;
-    };
-    is_of_kind(*kind, value) && fit(kinds, row)
-}
-
-fn is_of_kind(kind: Kind, value: &Value) -> bool
-    ensures { IsTrue result ↔ IsOfKind kind value.now }
-{
-    matches!(
-        (kind, value),
-        (_, Value::Null)
-            | (Kind::Bool, Value::Bool(_))
-            | (Kind::Int, Value::Int(_))
-            | (Kind::Text, Value::Text(_))
-    )
+    Ok(out.extend_from_slice(bytes)?)
 }
 
 /// How many bytes the spelling of a row takes: at most 64,136, since it has at most 64 columns.

@@ -1,8 +1,9 @@
 pub mod Clean
 mod Examples
+pub mod Fronts
 pub mod Growing
+mod Ids
 pub mod Merging
 pub mod Parting
 pub mod Scanning
-pub mod StoreCounts
-pub mod Writing
+pub mod Sized

@@ -1,7 +1,7 @@
 -- The parts of a lane are one lane.
 use Rattle.std.proofs.Common.{◌≡◌, ℕ, ◌<◌, Bool, false, List, slice_index, slice_index_or, refl, sym, ap, ◌∙◌, arith}
 use Rattle.std.proofs.lemmas.Bool.{eqb-true, eq-eqb}
-use Rattle.hq_lane.specs.Lanes.{LaneState, PartState, part_at, place_of, place_in, owns, ArePartsOf, AreOneLane, IsOnce, IsWholeOf, HaveSameHeads}
+use Rattle.hq_lane.specs.Lanes.{LaneState, PartState, part_at, file_of, file_in, owns, ArePartsOf, AreOneLane, IsOnce, IsWholeOf, HaveSameHeads}
 
 -- a part has what it had
 owns-same : (parts new : List PartState) (n b : ℕ) → HaveSameHeads parts new → owns (part_at new n) b ≡ owns (part_at parts n) b
@@ -30,8 +30,8 @@ same_names lane whole owner parts new are same is =
     (is.table ∙ same.table 0 ∙ are.table 0 (omega arith), is.number ∙ same.number 0 ∙ are.number 0 (omega arith))
 
 pub owners_places : (lane whole : LaneState) (owner : List ℕ) (parts new : List PartState) → ((b : ℕ) → b < 16 → slice_index owner b < 16) → ArePartsOf lane owner parts → HaveSameHeads parts new → IsWholeOf new whole
-    → (b : ℕ) → b < 16 → place_of whole.places b ≡ place_in new (slice_index owner b) b
+    → (b : ℕ) → b < 16 → file_of whole.files b ≡ file_in new (slice_index owner b) b
 unfolding is_once
 owners_places lane whole owner parts new below are same is b h =
     let once = is_once lane owner parts new b h (below b h) are same in
-    is.places once.owner b once.within h once.here
+    is.files once.owner b once.within h once.here

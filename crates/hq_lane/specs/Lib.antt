@@ -1,6 +1,5 @@
+pub mod BucketFiles
 pub mod Lanes
 pub mod Packing
-pub mod Places
 pub mod Scans
-pub mod StoreCounts
-pub mod Taking
+pub mod Sizes

@@ -2,13 +2,13 @@
 --     GrewByFirst told kinds count rows old new    it grew by the blocks of the first `count` rows
 use Rattle.std.specs.Prelude.{◌≡◌, ℕ, Bool, List, ◌++◌, take, drop}
 use Rattle.hq_value.specs.declared.value.Value.{Value}
-use Rattle.hq_value.specs.declared.table.Kind.{Kind}
+use Rattle.hq_value.specs.declared.kind.Kind.{Kind}
 use Rattle.hq_block.specs.Block.{FileRows, pack}
-use Rattle.hq_lane.specs.Places.{PlaceState, IsGrown}
+use Rattle.hq_lane.specs.BucketFiles.{BucketState, IsGrown}
 
 -- the place grew by the blocks of the first `count` rows: they are a file of these rows, and the packing of all rows
 -- is these blocks and the packing of the others
-pub record GrewByFirst (told : Bool) (kinds : List Kind) (count : ℕ) (rows : List (List Value)) (old new : PlaceState) : Type 0 where
+pub record GrewByFirst (told : Bool) (kinds : List Kind) (count : ℕ) (rows : List (List Value)) (old new : BucketState) : Type 0 where
   pub added : List ℕ
   pub first : FileRows kinds added (take count rows)
   pub others : pack kinds rows ≡ added ++ pack kinds (drop count rows)

@@ -2,11 +2,13 @@
 --     IsFile kinds bytes                    the bytes are blocks of these kinds
 --     BeginsNoBlock kinds bytes             no block of these kinds begins the bytes
 --     HasRead told range len kinds rows     bytes of that length were read, and are a file of the rows
---     IsBadAt kinds from to at bytes        the bytes of the range from `at` on begin no block
+--     TakesBlock kinds bytes old new        the bytes are a block, whose rows were added
+--     HasReadBlock told all at len kinds old new    so many bytes from `at` on are a block, whose rows were added
+--     IsBadAt kinds from to at bytes        nothing that goes on from the bytes within the range begins with a block
 --     IfRows, OnStore, IfBadBlock           a fact for one end
-use Rattle.std.specs.Prelude.{◌≡◌, ℕ, ◌+◌, ◌-◌, ◌<◌, ◌≤◌, Bool, List, length, take, min, IsTrue}
+use Rattle.std.specs.Prelude.{◌≡◌, ℕ, ◌+◌, ◌-◌, ◌<◌, ◌≤◌, ◌++◌, Bool, List, length, take, slice_range, IsTrue}
 use Rattle.hq_value.specs.declared.value.Value.{Value}
-use Rattle.hq_value.specs.declared.table.Kind.{Kind}
+use Rattle.hq_value.specs.declared.kind.Kind.{Kind}
 use Rattle.hq_block.specs.Block.{IsBlock, FileRows}
 use Rattle.hq_lane.specs.declared.scan_end.ScanEnd.{ScanEnd}
 use Rattle.hq_lane.specs.declared.scan_end.ScanEnd.TheVariants.{Rows, Store, BadBlock, NoMemory}
@@ -26,13 +28,25 @@ pub record HasRead (told : Bool) (range : List ℕ) (len : ℕ) (kinds : List Ki
   pub are_told : IsTrue told → bytes ≡ range
   pub file : FileRows kinds bytes rows
 
--- bytes from `at` on, up to the end or so many that a block has room, begin no block
+-- the bytes are a block, whose rows were added
+pub record TakesBlock (kinds : List Kind) (bytes : List ℕ) (old new : List (List Value)) : Type 0 where
+  pub found : List (List Value)
+  pub block : IsBlock kinds found bytes
+  pub added : new ≡ old ++ found
+
+-- so many bytes were read from `at` on, those that are there where they are told: a block, whose rows were added
+pub record HasReadBlock (told : Bool) (all : List ℕ) (at len : ℕ) (kinds : List Kind) (old new : List (List Value)) : Type 0 where
+  pub bytes : List ℕ
+  pub long : length bytes ≡ len
+  pub are_told : IsTrue told → bytes ≡ slice_range all at (at + len)
+  pub taken : TakesBlock kinds bytes old new
+
+-- bytes from `at` on: nothing that goes on from them and does not pass the end of the range begins with a block
 pub record IsBadAt (kinds : List Kind) (from to at : ℕ) (bytes : List ℕ) : Type 0 where
   pub behind : from ≤ at
   pub before : at < to
   pub within : at + length bytes ≤ to
-  pub enough : min 65536 (to - at) ≤ length bytes
-  pub no_block : BeginsNoBlock kinds bytes
+  pub no_block : (more : List ℕ) → length (bytes ++ more) ≤ to - at → BeginsNoBlock kinds (bytes ++ more)
 
 -- a fact for rows
 abbrev pub IfRows : ScanEnd → (List (List Value) → Type 0) → Type 0

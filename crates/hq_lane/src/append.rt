@@ -1,27 +1,25 @@
-//! Rows appended to a place in blocks.
+//! Rows appended to a file in blocks.
 ghost use Rattle.std.specs.Prelude.{◌≡◌, ◌<◌, ◌≤◌, ℕ, false, true, All, IsOk, IsNone, OnOk, OnErr, IsErrOf, [], length};
 ghost use Rattle.std.specs.Option.{ForSome};
-ghost use Rattle.hq_value.specs.Causes.{Rose};
-ghost use Rattle.hq_block.specs.Row.{Fits};
+ghost use Rattle.hq_value.specs.Causes.{Rose, GoesOn};
+ghost use Rattle.hq_value.specs.Kinds.{Fits};
 ghost use Rattle.hq_block.specs.Block.{IsBlock, FileRows, block_bytes, block_length, pack};
-ghost use Rattle.hq_lane.specs.StoreCounts.{GoesOn};
-ghost use Rattle.hq_lane.specs.Places.{IsGrown};
+ghost use Rattle.hq_lane.specs.BucketFiles.{IsGrown};
 ghost use Rattle.hq_lane.specs.Packing.{GrewByFirst};
 
-use crate::place::Place;
+use crate::bucket_file::BucketFile;
 use hq_block::{EncodeFault, encode_block, fitting_rows};
 use hq_store::{SealCopy, Store, StoreFault, StoredFile};
-use hq_value::{FileId, Kinds, Row};
+use hq_value::{Kinds, Row};
 use std::alloc::Global;
 
-impl<F: StoredFile, Z: SealCopy> Place<F, Z> {
+impl<F: StoredFile, Z: SealCopy> BucketFile<F, Z> {
     /// Adds rows in blocks of following rows, each taking as many as fit. At a fault whole blocks of the first
     /// rows stand.
     pub(crate) fn append_rows<S: Store<File = F, Seal = Z>>(
         &mut self,
         alloc: Global,
         store: &mut S,
-        id: FileId,
         kinds: &Kinds,
         rows: &[Row],
     ) -> Result<(), StoreFault>
@@ -36,6 +34,7 @@ impl<F: StoredFile, Z: SealCopy> Place<F, Z> {
         ensures torn { IsErrOf result StoreFault.Failed → ForSome self.new.file (λ _. self.new.torn ≡ true) }
         ensures not_torn { IsErrOf result StoreFault.NoMemory → self.new.torn ≡ false }
         ensures missing { IsNone self.new.file → self.new ≡ self.old }
+        ensures id { self.new.id ≡ self.old.id }
         ensures nothing { rows.now ≡ [] → IsOk result × (self.new ≡ self.old) × (store.new ≡ store.old) }
 
         ensures cause { IsErrOf result StoreFault.Failed → Rose (S.faults store.old) (S.faults store.new) }
@@ -48,7 +47,7 @@ impl<F: StoredFile, Z: SealCopy> Place<F, Z> {
         while done < rows.len() {
             let rest = &rows[done..];
             let count = fitting_rows(kinds, rest);
-            self.append_block(alloc, store, id, kinds, &rest[..count])?;
+            self.append_block(alloc, store, kinds, &rest[..count])?;
             done += count;
         }
         Ok(())
@@ -59,7 +58,6 @@ impl<F: StoredFile, Z: SealCopy> Place<F, Z> {
         &mut self,
         alloc: Global,
         store: &mut S,
-        id: FileId,
         kinds: &Kinds,
         rows: &[Row],
     ) -> Result<(), StoreFault>
@@ -68,7 +66,7 @@ impl<F: StoredFile, Z: SealCopy> Place<F, Z> {
         requires some_rows { 0 < length rows.now }
         requires whole { self.old.torn ≡ false }
         requires fit { All (Fits kinds.now) rows.now }
-        requires room { block_length rows.now ≤ 65536 }
+        requires room { block_length kinds.now rows.now ≤ 65536 }
         ensures grown { OnOk result (IsGrown F.tells self.old (block_bytes kinds.now rows.now) self.new) }
         ensures block { OnOk result (IsBlock kinds.now rows.now (block_bytes kinds.now rows.now)) }
         ensures whole { OnOk result (self.new.torn ≡ false) }
@@ -81,7 +79,7 @@ impl<F: StoredFile, Z: SealCopy> Place<F, Z> {
         ensures store { GoesOn S.faults S.given S.sound store.old store.new }
     {
         match encode_block(alloc, kinds, rows) {
-            Ok(block) => self.append(store, id, &block),
+            Ok(block) => self.append(store, &block),
             Err(EncodeFault::NoMemory) => Err(StoreFault::NoMemory),
             Err(EncodeFault::TooLarge) => unreachable!(),
         }

@@ -1,48 +1,54 @@
 //! A lane.
-ghost use Rattle.std.specs.Prelude.{◌≡◌, ◌<◌, ◌≤◌, ◌↔◌, ℕ, true, false, replicate, length, slice_set, option_map, vec_len, IsTrue, IfOk, OnOk, OnErr, IsErrOf, None};
+ghost use Rattle.std.specs.Prelude.{◌≡◌, ◌<◌, ◌≤◌, ◌↔◌, ℕ, true, false, length, slice_set, option_map, IsTrue, IfOk, IsOk, IfSome, IsNone, OnOk, OnErr, IsErrOf, None};
 ghost use Rattle.std.specs.Option.{ForSome};
-ghost use Rattle.hq_value.specs.Causes.{Rose};
-ghost use Rattle.hq_lane.specs.StoreCounts.{GoesOn};
-ghost use Rattle.hq_lane.specs.Places.{no_place, file_bytes, base_bytes, good_bytes, IsCutBack, KeepsBase, StaysIfClean, KeepsBytes, KeepsFile, published};
+ghost use Rattle.hq_value.specs.Causes.{Rose, GoesOn};
+ghost use Rattle.hq_store.specs.FileStep.{HasNoTail};
+ghost use Rattle.hq_lane.specs.BucketFiles.{found_file, file_bytes, base_bytes, good_bytes, IsCutBack, KeepsBase, StaysIfClean, KeepsBytes, KeepsFile, published};
 
-use crate::place::Place;
-use crate::places::{all_clean, cut_all, flush_each, make_places, seal_each};
+use crate::bucket_files::{all_clean, cut_all, flush_each, seal_each};
+use crate::slot::{Slot, Slots, no_slots};
 use hq_store::{SealCopy, Store, StoreFault, StoredFile};
-use hq_value::{Failed, NoMemory};
+use hq_value::{Failed, FileId, NoMemory};
 use std::alloc::Global;
 use std::marker::Model;
 
-/// The files of one writer of a table: 16 places, one for each bucket. It must be spent: given to the catalogue,
-/// cut into parts or abandoned.
+/// The files of one writer of a table, one for each of the 16 buckets. Each has the id of the table, the lane's number
+/// and its bucket. A lane must be spent: given to the catalogue, cut into parts or abandoned.
 pub struct Lane<F: StoredFile, Z: SealCopy> {
     table: u32,
     number: u8,
-    places: Vec<Place<F, Z>>,
+    files: Slots<F, Z>,
 }
 
 impl<F: StoredFile, Z: SealCopy> Model for Lane<F, Z> {
-    ghost use Rattle.std.specs.Prelude.{◌≡◌, length};
-    ghost use Rattle.hq_lane.specs.Lanes.{LaneState};
+    ghost use Rattle.hq_lane.specs.Lanes.{LaneState, HaveIds};
 
     ghost Value = { LaneState };
 
-    ghost view = { λ l. record { table = l.table; number = l.number; places = l.places.items } };
+    ghost view = { λ l. record { table = l.table; number = l.number; files = l.files } };
 
-    ghost invariant = { λ l. length l.places.items ≡ 16 };
+    ghost invariant = { λ l. HaveIds l.table l.number l.files };
+}
+
+/// The file of a bucket, of which `base` bytes are committed and `good` bytes are whole blocks.
+pub struct OwnFile<'a, F> {
+    pub file: &'a F,
+    pub base: u64,
+    pub good: u64,
 }
 
 impl<F: StoredFile, Z: SealCopy> Lane<F, Z> {
-    ghost use Rattle.hq_lane.specs.Lanes.{LaneState, place_of, EachPlace, are_clean, AreClean, AreWhole, AreFlushed, AreSealed, HaveNoSeal, StopsAt};
+    ghost use Rattle.hq_lane.specs.Lanes.{LaneState, no_files, file_of, EachFile, are_clean, AreClean, AreWhole, AreFlushed, AreSealed, HaveIds, HaveNoSeal, StopsAt, id_of};
 
-    /// A lane without files.
-    pub fn fresh(alloc: Global, table: u32, number: u8) -> Result<Self, NoMemory>
-        ensures { IfOk result (λ lane. lane ≡ record { table = table; number = number; places = replicate 16 no_place }) }
+    /// A lane without files. It takes no memory.
+    pub fn fresh(_: Global, table: u32, number: u8) -> Result<Self, NoMemory>
+        ensures lane { IfOk result (λ lane. lane ≡ record { table = table; number = number; files = no_files table number }) }
+        ensures ok { IsOk result }
     {
-        let places = make_places(alloc)?;
         Ok(Lane {
             table,
             number,
-            places,
+            files: no_slots(table, number),
         })
     }
 
@@ -60,14 +66,14 @@ impl<F: StoredFile, Z: SealCopy> Lane<F, Z> {
         self.number
     }
 
-    /// Whether no place is torn and each has just its committed bytes.
+    /// Whether no file is torn and each has just its committed bytes.
     pub fn is_clean(&self) -> bool
-        ensures clean { result ≡ are_clean self.now.places }
-        ensures exactly { IsTrue result ↔ AreClean self.now.places }
+        ensures clean { result ≡ are_clean self.now.files }
+        ensures exactly { IsTrue result ↔ AreClean self.now.files }
         ensures just { IsTrue result → IsTrue F.tells → (b : ℕ) → b < 16
-            → file_bytes (place_of self.now.places b).file ≡ base_bytes (place_of self.now.places b) }
+            → file_bytes (file_of self.now.files b).file ≡ base_bytes (file_of self.now.files b) }
     {
-        all_clean(&self.places)
+        all_clean(&self.files)
     }
 
     /// Gives up its files without a cut.
@@ -75,108 +81,156 @@ impl<F: StoredFile, Z: SealCopy> Lane<F, Z> {
         let Lane {
             table: _,
             number: _,
-            places: _places,
+            files: _files,
         } = self;
     }
 
-    /// Cuts each place that is torn or past its committed bytes, in order of buckets, and stops at the first
+    /// Cuts each file that is torn or past its committed bytes, in order of buckets, and stops at the first
     /// failure. The committed bytes stay.
     pub fn cut_back<S: Store<File = F, Seal = Z>>(&mut self, store: &mut S) -> Result<(), Failed>
-        requires { HaveNoSeal self.old.places }
-        ensures lane { self.new ≡ record self.old { places = self.new.places } }
-        ensures cut { OnOk result (EachPlace (IsCutBack F.tells) self.old.places self.new.places) }
-        ensures clean { OnOk result (AreClean self.new.places) }
-        ensures stopped { OnErr result (StopsAt F.tells self.old.places self.new.places) }
-        ensures kept { EachPlace (KeepsBase F.tells) self.old.places self.new.places }
-        ensures still { EachPlace StaysIfClean self.old.places self.new.places }
+        requires { HaveNoSeal self.old.files }
+        ensures lane { self.new ≡ record self.old { files = self.new.files } }
+        ensures cut { OnOk result (EachFile (IsCutBack F.tells) self.old.files self.new.files) }
+        ensures clean { OnOk result (AreClean self.new.files) }
+        ensures stopped { OnErr result (StopsAt F.tells self.old.files self.new.files) }
+        ensures kept { EachFile (KeepsBase F.tells) self.old.files self.new.files }
+        ensures still { EachFile StaysIfClean self.old.files self.new.files }
 
         ensures cause { OnErr result (Rose (S.faults store.old) (S.faults store.new)) }
         ensures store { GoesOn S.faults S.given S.sound store.old store.new }
     {
-        cut_all(&mut self.places, store)
+        cut_all(&mut self.files, store)
     }
 
-    /// Flushes each place that has grown, in order of buckets, and stops at the first fault. No byte changes.
+    /// Flushes each file that has grown, in order of buckets, and stops at the first fault. No byte changes.
     pub fn flush_all<S: Store<File = F, Seal = Z>>(
         &mut self,
         store: &mut S,
     ) -> Result<(), StoreFault>
-        requires { AreWhole self.old.places }
-        ensures lane { self.new ≡ record self.old { places = self.new.places } }
-        ensures flushed { OnOk result (AreFlushed self.new.places) }
-        ensures kept { EachPlace (KeepsBytes F.tells) self.old.places self.new.places }
+        requires { AreWhole self.old.files }
+        ensures lane { self.new ≡ record self.old { files = self.new.files } }
+        ensures flushed { OnOk result (AreFlushed self.new.files) }
+        ensures kept { EachFile (KeepsBytes F.tells) self.old.files self.new.files }
 
         ensures cause { IsErrOf result StoreFault.Failed → Rose (S.faults store.old) (S.faults store.new) }
         ensures store { GoesOn S.faults S.given S.sound store.old store.new }
     {
-        flush_each(&mut self.places, store)
+        flush_each(&mut self.files, store)
     }
 
-    /// Gives each place that has grown a fresh seal of its bytes. It can't fail.
+    /// Gives each file that has grown a fresh seal of its bytes. It can't fail.
     pub fn seal_all<S: Store<File = F, Seal = Z>>(&mut self, store: &mut S)
-        requires { AreFlushed self.old.places }
-        ensures lane { self.new ≡ record self.old { places = self.new.places } }
-        ensures sealed { AreSealed F.tells Z.tells self.new.places }
-        ensures kept { EachPlace (KeepsFile F.tells) self.old.places self.new.places }
+        requires { AreFlushed self.old.files }
+        ensures lane { self.new ≡ record self.old { files = self.new.files } }
+        ensures sealed { AreSealed F.tells Z.tells self.new.files }
+        ensures kept { EachFile (KeepsFile F.tells) self.old.files self.new.files }
 
         ensures no_fault { S.faults store.new ≡ S.faults store.old }
         ensures store { GoesOn S.faults S.given S.sound store.old store.new }
     {
-        seal_each(&mut self.places, store);
+        seal_each(&mut self.files, store);
     }
 
-    /// Hands out the fresh seal of a place, and what is under it is committed from now on.
+    /// Hands out the fresh seal of a bucket's file, and what is under it is committed from now on.
+    #[tactic(auto, using(crate::proofs::Ids::ids_set))]
     pub fn publish(&mut self, bucket: u8) -> Option<Z>
         requires { bucket < 16 }
-        ensures lane { self.new ≡ record self.old { places = slice_set self.old.places bucket (published (place_of self.old.places bucket)) } }
-        ensures seal { option_map Z.state result ≡ (place_of self.old.places bucket).fresh }
-        ensures order { (place_of self.old.places bucket).base ≤ (place_of self.old.places bucket).good }
-        ensures longer { ForSome (place_of self.old.places bucket).fresh (λ z. (place_of self.old.places bucket).base ≤ z.len) }
-        ensures within { ForSome (place_of self.old.places bucket).fresh (λ z. z.len ≤ (place_of self.old.places bucket).good) }
-        ensures committed { ForSome (place_of self.old.places bucket).fresh (λ z. IsTrue F.tells → IsTrue Z.tells
-            → base_bytes (published (place_of self.old.places bucket)) ≡ z.bytes) }
-        ensures just { (place_of self.old.places bucket).torn ≡ false → IsTrue F.tells
-            → file_bytes (place_of self.old.places bucket).file ≡ good_bytes (place_of self.old.places bucket) }
-        ensures sixteen { length self.old.places ≡ 16 }
+        ensures lane { self.new ≡ record self.old { files = slice_set self.old.files bucket (published (file_of self.old.files bucket)) } }
+        ensures seal { option_map Z.state result ≡ (file_of self.old.files bucket).fresh }
+        ensures order { (file_of self.old.files bucket).base ≤ (file_of self.old.files bucket).good }
+        ensures longer { ForSome (file_of self.old.files bucket).fresh (λ z. (file_of self.old.files bucket).base ≤ z.len) }
+        ensures within { ForSome (file_of self.old.files bucket).fresh (λ z. z.len ≤ (file_of self.old.files bucket).good) }
+        ensures committed { ForSome (file_of self.old.files bucket).fresh (λ z. IsTrue F.tells → IsTrue Z.tells
+            → base_bytes (published (file_of self.old.files bucket)) ≡ z.bytes) }
+        ensures just { (file_of self.old.files bucket).torn ≡ false → IsTrue F.tells
+            → file_bytes (file_of self.old.files bucket).file ≡ good_bytes (file_of self.old.files bucket) }
+        ensures sixteen { length self.old.files ≡ 16 }
     {
-        self.places[bucket as usize].publish()
+        self.files[bucket as usize].publish()
     }
 
-    /// How many bytes of a place are committed.
+    /// How many bytes of a bucket's file are committed.
     pub fn committed(&self, bucket: u8) -> u64
         requires { bucket < 16 }
-        ensures { result ≡ (place_of self.now.places bucket).base }
+        ensures { result ≡ (file_of self.now.files bucket).base }
     {
-        self.places[bucket as usize].base()
+        self.files[bucket as usize].base()
     }
 
-    pub(crate) fn place(&self, bucket: u8) -> &Place<F, Z>
+    /// The file of a bucket, where there is one.
+    pub fn own_file(&self, bucket: u8) -> Option<OwnFile<'_, F>>
         requires { bucket < 16 }
-        ensures { result.now ≡ place_of self.now.places bucket }
+        ensures file { option_map (λ own. F.state own.file.now) result ≡ (file_of self.now.files bucket).file }
+        ensures base { IfSome result (λ own. own.base ≡ (file_of self.now.files bucket).base) }
+        ensures good { IfSome result (λ own. own.good ≡ (file_of self.now.files bucket).good) }
+        ensures sure { IfSome result (λ own. (F.state own.file.now).sure ≡ own.good) }
+        ensures order { IfSome result (λ own. own.base ≤ own.good) }
     {
-        &self.places[bucket as usize]
+        self.files[bucket as usize].own_file()
     }
 
-    pub(crate) fn take_apart(self) -> Vec<Place<F, Z>>
-        ensures places { result.items ≡ self.places }
-        ensures sixteen { vec_len result ≡ 16 }
+    /// Puts in a file that was found, of which all sure bytes are committed. Without memory nothing changes but that the
+    /// file is given up.
+    #[tactic(auto, using(crate::proofs::Ids::ids_put))]
+    pub fn put_found(
+        &mut self,
+        alloc: Global,
+        bucket: u8,
+        file: F,
+        len: u64,
+    ) -> Result<(), NoMemory>
+        requires in_range { bucket < 16 }
+        requires id { (F.state file).id ≡ id_of self.old.table self.old.number bucket }
+        requires sure { (F.state file).sure ≡ len }
+        requires sealed { (F.state file).sealed ≡ len }
+        requires no_tail { HasNoTail F.tells (F.state file) }
+        ensures put { OnOk result (self.new ≡ record self.old { files = slice_set self.old.files bucket (found_file (F.state file) len) }) }
+        ensures same { OnErr result (self.new ≡ self.old) }
+    {
+        let id = FileId {
+            table: self.table,
+            lane: self.number,
+            bucket,
+        };
+        let slot = Slot::found(alloc, id, file, len)?;
+        self.files[bucket as usize] = slot;
+        Ok(())
+    }
+
+    /// What holds of every lane: each file has the id of its bucket.
+    pub fn stands(&self)
+        ensures { HaveIds self.now.table self.now.number self.now.files }
+    {
+        let _ = &self.files;
+    }
+
+    pub(crate) fn slot(&self, bucket: u8) -> &Slot<F, Z>
+        requires { bucket < 16 }
+        ensures { result.now ≡ file_of self.now.files bucket }
+    {
+        &self.files[bucket as usize]
+    }
+
+    pub(crate) fn take_apart(self) -> Slots<F, Z>
+        ensures files { result ≡ self.files }
+        ensures ids { HaveIds self.table self.number self.files }
     {
         let Lane {
             table: _,
             number: _,
-            places,
+            files,
         } = self;
-        places
+        files
     }
 
-    pub(crate) fn of(table: u32, number: u8, places: Vec<Place<F, Z>>) -> Self
-        requires { vec_len places ≡ 16 }
-        ensures { result ≡ record { table = table; number = number; places = places.items } }
+    pub(crate) fn of(table: u32, number: u8, files: Slots<F, Z>) -> Self
+        requires { HaveIds table number files }
+        ensures { result ≡ record { table = table; number = number; files = files } }
     {
         Lane {
             table,
             number,
-            places,
+            files,
         }
     }
 }

@@ -2,22 +2,20 @@
 #![tactic(auto)]
 
 mod append;
-mod blocks;
+mod block;
+mod bucket_file;
+mod bucket_files;
 mod lane;
 mod laws;
 mod part;
 mod parts;
-mod place;
-mod places;
 mod range;
 mod scan;
 mod scan_end;
+mod slot;
 
-pub use lane::Lane;
+pub use lane::{Lane, OwnFile};
 pub use laws::parts_make_a_lane;
 pub use part::LanePart;
 pub use scan::scan_seal;
 pub use scan_end::ScanEnd;
-
-#[cfg(test)]
-mod tests;

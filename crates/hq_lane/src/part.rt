@@ -1,45 +1,41 @@
 //! A part of a lane.
-ghost use Rattle.std.specs.Prelude.{◌≡◌, ◌≢◌, ◌<◌, ◌≤◌, ℕ, false, true, All, IsOk, IsNone, OnOk, OnErr, IsErrOf, [], length, slice_set, vec_len};
+ghost use Rattle.std.specs.Prelude.{◌≡◌, ◌≢◌, ◌<◌, ◌≤◌, ℕ, false, true, All, IsOk, IsNone, OnOk, OnErr, IsErrOf, [], length, slice_set};
 ghost use Rattle.std.specs.Option.{ForSome};
-ghost use Rattle.hq_value.specs.Causes.{Rose};
-ghost use Rattle.hq_block.specs.Row.{Fits};
+ghost use Rattle.hq_value.specs.Causes.{Rose, GoesOn};
+ghost use Rattle.hq_value.specs.Kinds.{Fits};
 ghost use Rattle.hq_block.specs.Block.{FileRows, pack};
-ghost use Rattle.hq_lane.specs.StoreCounts.{GoesOn};
-ghost use Rattle.hq_lane.specs.Places.{no_place, IsGrown};
+ghost use Rattle.hq_lane.specs.BucketFiles.{IsGrown};
 ghost use Rattle.hq_lane.specs.Packing.{GrewByFirst};
 
-use crate::place::Place;
-use crate::places::BUCKETS;
+use crate::slot::{Slot, Slots, no_slots};
 use hq_store::{SealCopy, Store, StoreFault, StoredFile};
-use hq_value::{FileId, Kinds, Row};
+use hq_value::{BUCKETS, Kinds, Row};
 use std::alloc::Global;
 use std::marker::Model;
-use std::mem;
 
-/// Some places of a lane, which one node writes. The others stand empty, so that a lane can be made of its parts
-/// without memory. It must be spent, by `whole`.
+/// Some files of a lane, which one node writes. It has room for all, so that a lane can be made of its parts without
+/// memory. It must be spent, by `whole`.
 pub struct LanePart<F: StoredFile, Z: SealCopy> {
     table: u32,
     number: u8,
     here: [bool; BUCKETS],
-    places: Vec<Place<F, Z>>,
+    files: Slots<F, Z>,
 }
 
 impl<F: StoredFile, Z: SealCopy> Model for LanePart<F, Z> {
-    ghost use Rattle.std.specs.Prelude.{◌≡◌, length};
-    ghost use Rattle.hq_lane.specs.Lanes.{PartState};
+    ghost use Rattle.hq_lane.specs.Lanes.{PartState, HaveIds};
 
     ghost Value = { PartState };
 
-    ghost view = { λ p. record { table = p.table; number = p.number; here = p.here; places = p.places.items } };
+    ghost view = { λ p. record { table = p.table; number = p.number; here = p.here; files = p.files } };
 
-    ghost invariant = { λ p. length p.places.items ≡ 16 };
+    ghost invariant = { λ p. HaveIds p.table p.number p.files };
 }
 
 impl<F: StoredFile, Z: SealCopy> LanePart<F, Z> {
-    ghost use Rattle.hq_lane.specs.Lanes.{PartState, place_of, owns};
+    ghost use Rattle.hq_lane.specs.Lanes.{PartState, HaveIds, id_of, file_of, owns};
 
-    /// Whether the place of a bucket is here.
+    /// Whether the file of a bucket is here.
     pub fn has(&self, bucket: u8) -> bool
         requires { bucket < 16 }
         ensures { result ≡ owns self.now bucket }
@@ -47,9 +43,10 @@ impl<F: StoredFile, Z: SealCopy> LanePart<F, Z> {
         self.here[bucket as usize]
     }
 
-    /// Adds rows to a place, in blocks of following rows that each take as many as fit. After a failure the place
+    /// Adds rows to a bucket's file, in blocks of following rows that each take as many as fit. After a failure the file
     /// is torn, or has no file where none could be made. At any fault whole blocks of the first rows stand.
     /// Without rows no file is made.
+    #[tactic(auto, using(crate::proofs::Ids::ids_set))]
     pub fn append_rows<S: Store<File = F, Seal = Z>>(
         &mut self,
         alloc: Global,
@@ -60,95 +57,93 @@ impl<F: StoredFile, Z: SealCopy> LanePart<F, Z> {
     ) -> Result<(), StoreFault>
         requires in_range { bucket < 16 }
         requires here { owns self.old bucket ≡ true }
-        requires whole { (place_of self.old.places bucket).torn ≡ false }
+        requires whole { (file_of self.old.files bucket).torn ≡ false }
         requires some_kinds { 0 < length kinds.now }
         requires few_kinds { length kinds.now ≤ 64 }
         requires fit { All (Fits kinds.now) rows.now }
 
-        // No other place changes.
-        ensures others { self.new ≡ record self.old { places = slice_set self.old.places bucket (place_of self.new.places bucket) } }
+        // No other file changes.
+        ensures others { self.new ≡ record self.old { files = slice_set self.old.files bucket (file_of self.new.files bucket) } }
 
-        ensures packed { OnOk result (IsGrown F.tells (place_of self.old.places bucket) (pack kinds.now rows.now) (place_of self.new.places bucket)) }
+        ensures packed { OnOk result (IsGrown F.tells (file_of self.old.files bucket) (pack kinds.now rows.now) (file_of self.new.files bucket)) }
         ensures file { OnOk result (FileRows kinds.now (pack kinds.now rows.now) rows.now) }
-        ensures whole { OnOk result ((place_of self.new.places bucket).torn ≡ false) }
-        ensures first { OnErr result ((count : ℕ) × GrewByFirst F.tells kinds.now count rows.now (place_of self.old.places bucket) (place_of self.new.places bucket)) }
-        ensures torn { IsErrOf result StoreFault.Failed → ForSome (place_of self.new.places bucket).file (λ _. (place_of self.new.places bucket).torn ≡ true) }
-        ensures not_torn { IsErrOf result StoreFault.NoMemory → (place_of self.new.places bucket).torn ≡ false }
-        ensures missing { IsNone (place_of self.new.places bucket).file → place_of self.new.places bucket ≡ place_of self.old.places bucket }
+        ensures whole { OnOk result ((file_of self.new.files bucket).torn ≡ false) }
+        ensures first { OnErr result ((count : ℕ) × GrewByFirst F.tells kinds.now count rows.now (file_of self.old.files bucket) (file_of self.new.files bucket)) }
+        ensures torn { IsErrOf result StoreFault.Failed → ForSome (file_of self.new.files bucket).file (λ _. (file_of self.new.files bucket).torn ≡ true) }
+        ensures not_torn { IsErrOf result StoreFault.NoMemory → (file_of self.new.files bucket).torn ≡ false }
+        ensures missing { IsNone (file_of self.new.files bucket).file → file_of self.new.files bucket ≡ file_of self.old.files bucket }
         ensures nothing { rows.now ≡ [] → IsOk result × (self.new ≡ self.old) × (store.new ≡ store.old) }
 
         ensures cause { IsErrOf result StoreFault.Failed → Rose (S.faults store.old) (S.faults store.new) }
         ensures store { GoesOn S.faults S.given S.sound store.old store.new }
     {
-        let id = FileId {
-            table: self.table,
-            lane: self.number,
-            bucket,
-        };
-        self.places[bucket as usize].append_rows(alloc, store, id, kinds, rows)
+        self.files[bucket as usize].append_rows(alloc, store, kinds, rows)
     }
 
-    /// Takes a place out, and leaves one without a file.
-    pub(crate) fn take(&mut self, bucket: u8) -> Place<F, Z>
+    /// Takes a file out, and leaves none.
+    #[tactic(auto, using(crate::proofs::Ids::ids_set))]
+    pub(crate) fn take(&mut self, bucket: u8) -> Slot<F, Z>
         requires { bucket < 16 }
-        ensures taken { result ≡ place_of self.old.places bucket }
-        ensures left { self.new ≡ record self.old { places = slice_set self.old.places bucket no_place } }
-    {
-        mem::replace(&mut self.places[bucket as usize], Place::empty())
-    }
-
-    /// Puts a place in.
-    pub(crate) fn put(&mut self, bucket: u8, place: Place<F, Z>)
-        requires { bucket < 16 }
-        ensures put { place_of self.new.places bucket ≡ place }
-        ensures others { (b : ℕ) → b ≢ bucket → place_of self.new.places b ≡ place_of self.old.places b }
+        ensures taken { result ≡ file_of self.old.files bucket }
+        ensures id { result.id ≡ id_of self.old.table self.old.number bucket }
+        ensures others { (b : ℕ) → b ≢ bucket → file_of self.new.files b ≡ file_of self.old.files b }
         ensures here { self.new.here ≡ self.old.here }
         ensures table { self.new.table ≡ self.old.table }
         ensures number { self.new.number ≡ self.old.number }
     {
-        self.places[bucket as usize] = place;
+        self.files[bucket as usize].take()
     }
 
-    /// A part whose places are still to be put in.
-    pub(crate) fn empty(
-        table: u32,
-        number: u8,
-        here: [bool; BUCKETS],
-        places: Vec<Place<F, Z>>,
-    ) -> Self
-        requires { vec_len places ≡ 16 }
-        ensures { result ≡ record { table = table; number = number; here = here; places = places.items } }
+    /// Puts a file in.
+    #[tactic(auto, using(crate::proofs::Ids::ids_put))]
+    pub(crate) fn put(&mut self, bucket: u8, file: Slot<F, Z>)
+        requires in_range { bucket < 16 }
+        requires id { file.id ≡ id_of self.old.table self.old.number bucket }
+        ensures put { file_of self.new.files bucket ≡ file }
+        ensures others { (b : ℕ) → b ≢ bucket → file_of self.new.files b ≡ file_of self.old.files b }
+        ensures here { self.new.here ≡ self.old.here }
+        ensures table { self.new.table ≡ self.old.table }
+        ensures number { self.new.number ≡ self.old.number }
+    {
+        self.files[bucket as usize] = file;
+    }
+
+    /// A part whose files are still to be put in.
+    pub(crate) fn empty(table: u32, number: u8, here: [bool; BUCKETS]) -> Self
+        ensures table { result.table ≡ table }
+        ensures number { result.number ≡ number }
+        ensures here { result.here ≡ here }
     {
         LanePart {
             table,
             number,
             here,
-            places,
+            files: no_slots(table, number),
         }
     }
 
-    pub(crate) fn take_apart(self) -> (u32, u8, Vec<Place<F, Z>>)
+    pub(crate) fn take_apart(self) -> (u32, u8, Slots<F, Z>)
         ensures table { result.0 ≡ self.table }
         ensures number { result.1 ≡ self.number }
-        ensures places { result.2.items ≡ self.places }
-        ensures sixteen { vec_len result.2 ≡ 16 }
+        ensures files { result.2 ≡ self.files }
+        ensures ids { HaveIds result.0 result.1 result.2 }
     {
         let LanePart {
             table,
             number,
             here: _,
-            places,
+            files,
         } = self;
-        (table, number, places)
+        (table, number, files)
     }
 
-    /// Gives up a part whose places are taken.
+    /// Gives up a part whose files are taken.
     pub(crate) fn discard(self) {
         let LanePart {
             table: _,
             number: _,
             here: _,
-            places: _places,
+            files: _files,
         } = self;
     }
 }

@@ -2,13 +2,14 @@
 use Rattle.std.proofs.Common.{◌≡◌, ◌≢◌, ◌⊎◌, ◌+◌, ◌<◌, ◌≤◌, ℕ, true, false, List, [], Option, Some, None, length, map, slice_set, IsTrue, IsSomeAnd, refl, ap, sym, subst, ◌∙◌, inl, inr, arith}
 use Rattle.std.proofs.lemmas.List.{get_or-set_same, get_or-set_other, map-set, length-map}
 use Rattle.hq_store.specs.FileStep.{SealState}
-use Rattle.hq_lane.specs.Places.{PlaceState, file_bytes, good_bytes, IsSealOf}
+use Rattle.hq_lane.specs.BucketFiles.{BucketState, file_bytes, good_bytes, IsSealOf}
 use Rattle.hq_table.specs.Kept.{bytes_in}
 use Rattle.hq_table.specs.Home.{IsReady, files_of, seal_bytes}
 use Rattle.hq_table.proofs.Places.{compared}
+use Rattle.hq_store.specs.Pages.{Shared}
 
 -- a fresh seal has all good bytes
-pub ready-bytes : (p : PlaceState) (z : SealState) → IsReady p → ◌≡◌ {A = Option SealState} (Some z) p.fresh → p.base ≤ p.good → (p.torn ≡ false → IsTrue true → file_bytes p.file ≡ good_bytes p) → z.bytes ≡ good_bytes p
+pub ready-bytes : (p : BucketState) (z : SealState) → IsReady p → ◌≡◌ {A = Option SealState} (Some z) p.fresh → p.base ≤ p.good → (p.torn ≡ false → IsTrue true → file_bytes p.file ≡ good_bytes p) → z.bytes ≡ good_bytes p
 ready-bytes p z ready is order just = by (compared p.base p.good)
   where
     by : (p.base < p.good) ⊎ ((p.base ≡ p.good) ⊎ (p.good < p.base)) → z.bytes ≡ good_bytes p
@@ -19,16 +20,16 @@ ready-bytes p z ready is order just = by (compared p.base p.good)
     by (inr (inr more)) = absurd (omega (arith, more, order))
 
 -- the bytes under a seal that was put in
-pub sealed-bytes : (seals : List (Option (List ℕ))) (b : ℕ) (bytes : List ℕ) → b < length seals → bytes_in (files_of (slice_set seals b (Some bytes))) b ≡ bytes
-sealed-bytes seals b bytes within =
-    ap (λ files. bytes_in files b) (map-set seal_bytes seals b (Some bytes)) ∙ get_or-set_same (map seal_bytes seals) b bytes [] (omega (arith, within, length-map seals seal_bytes))
+pub sealed-bytes : (seals : List (Option Shared)) (b : ℕ) (seal : Shared) → b < length seals → bytes_in (files_of (slice_set seals b (Some seal))) b ≡ seal.bytes
+sealed-bytes seals b seal within =
+    ap (λ files. bytes_in files b) (map-set seal_bytes seals b (Some seal)) ∙ get_or-set_same (map seal_bytes seals) b seal.bytes [] (omega (arith, within, length-map seals seal_bytes))
 
-other-bytes : (seals new : List (Option (List ℕ))) (k b : ℕ) (seal : Option (List ℕ)) → new ≡ slice_set seals k seal → b ≢ k → bytes_in (files_of new) b ≡ bytes_in (files_of seals) b
+other-bytes : (seals new : List (Option Shared)) (k b : ℕ) (seal : Option Shared) → new ≡ slice_set seals k seal → b ≢ k → bytes_in (files_of new) b ≡ bytes_in (files_of seals) b
 other-bytes seals new k b seal set n =
     ap (λ ss. bytes_in (files_of ss) b) set ∙ ap (λ files. bytes_in files b) (map-set seal_bytes seals k seal) ∙ get_or-set_other (map seal_bytes seals) k b (seal_bytes seal) [] n
 
 -- the bytes under the seals, one more of which was put in
-pub more-under : (good : ℕ → List ℕ) (seals new : List (Option (List ℕ))) (k : ℕ) (seal : Option (List ℕ)) → new ≡ slice_set seals k seal
+pub more-under : (good : ℕ → List ℕ) (seals new : List (Option Shared)) (k : ℕ) (seal : Option Shared) → new ≡ slice_set seals k seal
     → ((b : ℕ) → b < k → bytes_in (files_of seals) b ≡ good b) → bytes_in (files_of new) k ≡ good k → (b : ℕ) → b < k + 1 → bytes_in (files_of new) b ≡ good b
 more-under good seals new k seal set before this b within = by (compared b k)
   where
@@ -37,5 +38,5 @@ more-under good seals new k seal set before this b within = by (compared b k)
     by (inr (inl same)) = subst (λ n. bytes_in (files_of new) n ≡ good n) (sym same) this
     by (inr (inr more)) = absurd (omega (arith, more, within))
 
-pub still-under : (seals new : List (Option (List ℕ))) (k : ℕ) (seal : Option (List ℕ)) → new ≡ slice_set seals k seal → (b : ℕ) → k + 1 ≤ b → bytes_in (files_of new) b ≡ bytes_in (files_of seals) b
+pub still-under : (seals new : List (Option Shared)) (k : ℕ) (seal : Option Shared) → new ≡ slice_set seals k seal → (b : ℕ) → k + 1 ≤ b → bytes_in (files_of new) b ≡ bytes_in (files_of seals) b
 still-under seals new k seal set b behind = other-bytes seals new k b seal set (λ e. absurd (omega (arith, behind, e)))

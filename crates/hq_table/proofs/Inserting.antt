@@ -4,12 +4,14 @@ use Rattle.std.proofs.lemmas.Bool.Decides.{nat_tests}
 use Rattle.std.proofs.lemmas.List.Elements.{All-cons}
 use Rattle.std.proofs.lemmas.Slice.Zip.{AllZip-long}
 use Rattle.hq_value.specs.declared.value.Value.{Value}
-use Rattle.hq_value.specs.declared.table.Kind.{Kind}
+use Rattle.hq_value.specs.declared.kind.Kind.{Kind}
 use Rattle.hq_value.specs.Tables.{all_below}
-use Rattle.hq_block.specs.Row.{Fits, IsOfKind}
+use Rattle.hq_value.specs.Kinds.{Fits, IsOfKind}
 use Rattle.hq_block.specs.Block.{FileRows, pack}
-use Rattle.hq_table.specs.Kept.{Buckets, bytes_in, bucket_at, share_from}
+use Rattle.hq_value.specs.Bucket.{Buckets, bucket_at, share_from}
+use Rattle.hq_table.specs.Kept.{bytes_in}
 use Rattle.hq_table.specs.Home.{IsAdded, files_of}
+use Rattle.hq_store.specs.Pages.{Shared}
 
 -- what holds of all rows holds of a bucket's
 pub all-share : (P : List Value → Type 0) (keys : List ℕ) (place : ℕ) (rows : List (List Value)) (b : ℕ) → All P rows → All P (share_from keys place rows b)
@@ -61,6 +63,6 @@ keys-within kinds n keys rows same below fit = λ k d within k' d' within'.
     omega (arith, keys-below n keys below k' d' within', AllZip-long IsOfKind kinds (get_or rows k d) (fit k d within), same)
 
 -- the files stay where the seals do
-pub same-files : {E : Type 0} (seals seals' : List (Option (List ℕ))) (result : Result Unit E) → OnErr result (seals' ≡ seals) → OnErr result ((b : ℕ) → bytes_in (files_of seals') b ≡ bytes_in (files_of seals) b)
+pub same-files : {E : Type 0} (seals seals' : List (Option Shared)) (result : Result Unit E) → OnErr result (seals' ≡ seals) → OnErr result ((b : ℕ) → bytes_in (files_of seals') b ≡ bytes_in (files_of seals) b)
 same-files seals seals' (Ok u) same = tt
 same-files seals seals' (Err e) same = λ b. ap (λ ss. bytes_in (files_of ss) b) same

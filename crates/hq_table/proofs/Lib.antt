@@ -1,4 +1,3 @@
-mod Bags
 mod Committing
 mod Inserting
 mod Making

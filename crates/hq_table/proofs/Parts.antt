@@ -2,10 +2,10 @@
 use Rattle.std.proofs.Common.{◌≡◌, ◌<◌, ℕ, zero, suc, false, List, [], ◌∷◌, ◌++◌, length, replicate, take, slice_set, slice_index, slice_index_or, Result, Ok, Err, OnOk, IsOk, refl, ap, sym, ◌∙◌, arith}
 use Rattle.std.proofs.lemmas.List.{get_or-set_same, get_or_read, length-set}
 use Rattle.hq_value.specs.declared.value.Value.{Value}
-use Rattle.hq_value.specs.declared.table.Kind.{Kind}
+use Rattle.hq_value.specs.declared.kind.Kind.{Kind}
 use Rattle.hq_block.specs.Block.{pack}
-use Rattle.hq_lane.specs.Lanes.{LaneState, PartState, place_of, part_at, no_part, place_in, ArePartsOf, HaveSameHeads}
-use Rattle.hq_lane.specs.Places.{PlaceState, good_bytes, file_bytes}
+use Rattle.hq_lane.specs.Lanes.{LaneState, PartState, file_of, part_at, no_part, file_in, ArePartsOf, HaveSameHeads}
+use Rattle.hq_lane.specs.BucketFiles.{BucketState, good_bytes, file_bytes}
 use Rattle.hq_table.specs.Home.{IsHome, IsWritten, IsAdded, HasSameHead}
 
 -- node 0 owns all places
@@ -40,20 +40,20 @@ same-heads parts first new is h = record {
 }
 
 -- the part's places before
-pub place-before : (lane : LaneState) (parts : List PartState) (first : PartState) → ArePartsOf lane zeros parts → first ≡ part_at parts 0 → (b : ℕ) → b < 16 → place_of first.places b ≡ place_of lane.places b
+pub place-before : (lane : LaneState) (parts : List PartState) (first : PartState) → ArePartsOf lane zeros parts → first ≡ part_at parts 0 → (b : ℕ) → b < 16 → file_of first.files b ≡ file_of lane.files b
 place-before lane parts first are is b within =
-    ap (λ (p : PartState). place_of p.places b) is ∙ ap (λ n. place_in parts n b) (sym (zeros-at b)) ∙ are.places b within
+    ap (λ (p : PartState). file_of p.files b) is ∙ ap (λ n. file_in parts n b) (sym (zeros-at b)) ∙ are.files b within
 
 -- and after
-pub place-after : (whole : LaneState) (parts : List PartState) (new : PartState) (b : ℕ) → length parts ≡ 16 → place_of whole.places b ≡ place_in (slice_set parts 0 new) (slice_index zeros b) b → place_of whole.places b ≡ place_of new.places b
+pub place-after : (whole : LaneState) (parts : List PartState) (new : PartState) (b : ℕ) → length parts ≡ 16 → file_of whole.files b ≡ file_in (slice_set parts 0 new) (slice_index zeros b) b → file_of whole.files b ≡ file_of new.files b
 place-after whole parts new b sixteen is =
-    is ∙ ap (λ n. place_in (slice_set parts 0 new) n b) (zeros-at b) ∙ ap (λ (p : PartState). place_of p.places b) (get_or-set_same parts 0 new no_part (omega (arith, sixteen)))
+    is ∙ ap (λ n. file_in (slice_set parts 0 new) n b) (zeros-at b) ∙ ap (λ (p : PartState). file_of p.files b) (get_or-set_same parts 0 new no_part (omega (arith, sixteen)))
 
-pub good-is : (bytes : List ℕ) (p : PlaceState) → IsHome bytes p → good_bytes p ≡ bytes
+pub good-is : (bytes : List ℕ) (p : BucketState) → IsHome bytes p → good_bytes p ≡ bytes
 good-is bytes p h = ap (λ n. take n (file_bytes p.file)) h.committed ∙ h.bytes_are
 
 -- what was written and then committed was added
-pub added-told : {E F : Type 0} (kinds : List Kind) (rows : ℕ → List (List Value)) (files files' : ℕ → List ℕ) (old new : ℕ → PlaceState) (good : ℕ → List ℕ) (result : Result Unit E) (written : Result Unit F)
+pub added-told : {E F : Type 0} (kinds : List Kind) (rows : ℕ → List (List Value)) (files files' : ℕ → List ℕ) (old new : ℕ → BucketState) (good : ℕ → List ℕ) (result : Result Unit E) (written : Result Unit F)
     → OnOk result (IsOk written) → OnOk result ((b : ℕ) → b < 16 → files' b ≡ good b) → OnOk written ((b : ℕ) → b < 16 → IsWritten kinds (rows b) (old b) (new b))
     → ((b : ℕ) → b < 16 → good b ≡ good_bytes (new b)) → ((b : ℕ) → b < 16 → good_bytes (old b) ≡ files b) → OnOk result ((b : ℕ) → b < 16 → IsAdded kinds (rows b) (files b) (files' b))
 added-told kinds rows files files' old new good (Err e) written ok under wrote is home = tt
@@ -63,7 +63,7 @@ added-told kinds rows files files' old new good (Ok u) (Ok v) ok under wrote is 
     record { bytes = under b within ∙ is b within ∙ w.grown.bytes refl ∙ ap (λ bs. bs ++ pack kinds (rows b)) (home b within); file = w.file }
 
 -- each place is whole where all was written
-pub whole-told : {F : Type 0} (kinds : List Kind) (rows : ℕ → List (List Value)) (old new places : ℕ → PlaceState) (written : Result Unit F)
+pub whole-told : {F : Type 0} (kinds : List Kind) (rows : ℕ → List (List Value)) (old new places : ℕ → BucketState) (written : Result Unit F)
     → OnOk written ((b : ℕ) → b < 16 → IsWritten kinds (rows b) (old b) (new b)) → ((b : ℕ) → b < 16 → places b ≡ new b) → OnOk written ((b : ℕ) → b < 16 → (places b).torn ≡ false)
 whole-told kinds rows old new places (Err e) wrote is = tt
-whole-told kinds rows old new places (Ok u) wrote is = λ b within. ap (λ (p : PlaceState). p.torn) (is b within) ∙ (wrote b within).whole
+whole-told kinds rows old new places (Ok u) wrote is = λ b within. ap (λ (p : BucketState). p.torn) (is b within) ∙ (wrote b within).whole

@@ -3,7 +3,7 @@ use Rattle.std.proofs.Common.{◌≡◌, ◌≢◌, ◌==◌, ◌+◌, ◌<◌, 
 use Rattle.std.proofs.lemmas.Bool.Decides.{nat_tests}
 use Rattle.std.proofs.lemmas.List.{get_or-set_same, get_or-set_other}
 use Rattle.hq_value.specs.declared.value.Value.{Value}
-use Rattle.hq_table.specs.Kept.{bucket_at, share_from}
+use Rattle.hq_value.specs.Bucket.{bucket_at, share_from}
 use Rattle.hq_table.specs.Home.{rows_at}
 
 -- the buckets with the row, and then the shares of the rows behind it

@@ -1,6 +1,6 @@
 //! Rows added to a lane.
 ghost use Rattle.std.specs.Prelude.{◌≡◌, ◌<◌, ◌≤◌, ◌++◌, ℕ, All, length, OnOk, OnErr};
-ghost use Rattle.hq_block.specs.Row.{Fits};
+ghost use Rattle.hq_value.specs.Kinds.{Fits};
 ghost use Rattle.hq_block.specs.Block.{FileRows, pack};
 ghost use Rattle.hq_table.specs.Kept.{bytes_in};
 ghost use Rattle.hq_table.specs.Home.{IsQuiet, AreHome, IsAdded, files_of, rows_at};
@@ -21,7 +21,7 @@ pub(crate) fn append(
     kinds: &Kinds,
     buckets: &[Sequence<Row>],
 ) -> (Lane<MemFile, MemSeal>, Result<(), NoMemory>)
-    requires home { AreHome (files_of seals.old.items) lane.places }
+    requires home { AreHome (files_of seals.old.items) lane.files }
     requires sixteen { length seals.old.items ≡ 16 }
     requires some_kinds { 0 < length kinds.now }
     requires few_kinds { length kinds.now ≤ 64 }
@@ -29,7 +29,7 @@ pub(crate) fn append(
     requires fit { (b : ℕ) → b < 16 → All (Fits kinds.now) (rows_at buckets.now b) }
     requires quiet { IsQuiet store.old }
     ensures sixteen { length seals.new.items ≡ 16 }
-    ensures home { AreHome (files_of seals.new.items) result.0.places }
+    ensures home { AreHome (files_of seals.new.items) result.0.files }
     ensures added { OnOk result.1 ((b : ℕ) → b < 16 → IsAdded kinds.now (rows_at buckets.now b) (bytes_in (files_of seals.old.items) b) (bytes_in (files_of seals.new.items) b)) }
     ensures err { OnErr result.1 (seals.new.items ≡ seals.old.items) }
     ensures quiet { IsQuiet store.new }

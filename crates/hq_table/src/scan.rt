@@ -3,14 +3,14 @@ ghost use Rattle.std.specs.Prelude.{◌≡◌, ◌<◌, ◌++◌, ℕ, List, len
 ghost use Rattle.hq_value.specs.declared.value.Value.{Value as Datum};
 ghost use Rattle.hq_block.specs.Block.{FileRows};
 ghost use Rattle.hq_lane.specs.Scans.{IsFile};
-ghost use Rattle.hq_table.specs.Kept.{Buckets, bytes_in, rows_of};
+ghost use Rattle.hq_value.specs.Bucket.{Buckets, rows_of};
+ghost use Rattle.hq_table.specs.Kept.{bytes_in};
 ghost use Rattle.hq_table.specs.Home.{IsQuiet, files_of, seal_bytes};
 
-use crate::spread::BUCKETS;
 use hq_block::{files_grow_by_blocks, files_have_their_rows};
 use hq_lane::{ScanEnd, scan_seal};
 use hq_store::{MemSeal, MemStore};
-use hq_value::{Kinds, NoMemory, Row};
+use hq_value::{BUCKETS, Kinds, NoMemory, Row};
 use std::alloc::Global;
 
 // The rows under a seal, put behind others.
@@ -21,9 +21,9 @@ fn scan_bucket(
     kinds: &Kinds,
     rows: &mut Vec<Row>,
 ) -> Result<(), NoMemory>
-    requires file { IsFile kinds.now seal.now }
+    requires file { IsFile kinds.now seal.now.bytes }
     requires quiet { IsQuiet store.old }
-    ensures added { OnOk result ((kept : List (List Datum)) → FileRows kinds.now seal.now kept → rows.new.items ≡ rows.old.items ++ kept) }
+    ensures added { OnOk result ((kept : List (List Datum)) → FileRows kinds.now seal.now.bytes kept → rows.new.items ≡ rows.old.items ++ kept) }
     ensures quiet { IsQuiet store.new }
 {
     files_have_their_rows();

@@ -1,26 +1,10 @@
 //! Rows shared out to buckets.
 ghost use Rattle.std.specs.Prelude.{◌≡◌, ◌<◌, ◌++◌, ◌∷◌, ℕ, [], All, length, replicate, slice_set, IfOk, OnOk};
-ghost use Rattle.hq_table.specs.Kept.{share, bucket_at};
+ghost use Rattle.hq_value.specs.Bucket.{share};
 ghost use Rattle.hq_table.specs.Home.{rows_at};
 
-use hq_value::{Keys, NoMemory, Row, Sequence, bucket_of};
+use hq_value::{BUCKETS, Keys, NoMemory, Row, Sequence, bucket_at};
 use std::alloc::Global;
-
-/// How many buckets a table has.
-pub(crate) const BUCKETS: usize = 16;
-
-// The bucket of a row: by its keys, or without any by its place in the statement.
-fn bucket_at(keys: &Keys, place: usize, row: &Row) -> usize
-    requires { All (λ key. key < length row.now) keys.now }
-    ensures bucket { result ≡ bucket_at keys.now place row.now }
-    ensures below { result < 16 }
-{
-    if keys.is_empty() {
-        place % BUCKETS
-    } else {
-        bucket_of(row, keys) as usize
-    }
-}
 
 fn empty_buckets(alloc: Global) -> Result<Vec<Sequence<Row>>, NoMemory>
     ensures { IfOk result (λ buckets. buckets.items ≡ replicate 16 []) }
@@ -53,8 +37,8 @@ pub(crate) fn spread(
     let mut buckets = empty_buckets(alloc)?;
     let mut place = 0;
     for row in rows {
-        let bucket = bucket_at(keys, place, &row);
-        add(&mut buckets, bucket, row)?;
+        let bucket = bucket_at(&row, keys, place);
+        add(&mut buckets, bucket as usize, row)?;
         place += 1;
     }
     Ok(buckets)

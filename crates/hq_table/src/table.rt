@@ -1,17 +1,18 @@
 //! A table and its lane.
 ghost use Rattle.std.specs.Prelude.{◌≡◌, ◌<◌, ◌≤◌, ◌++◌, ◌↔◌, ℕ, [], All, IsTrue, length, replicate, None, Some, IfOk, OnOk, OnErr};
 ghost use Rattle.std.specs.Str.{bytes_eq};
-ghost use Rattle.hq_block.specs.Row.{Fits};
-ghost use Rattle.hq_table.specs.Kept.{Buckets, Keeps, kinds_of, share, rows_of};
+ghost use Rattle.hq_value.specs.Kinds.{Fits, are_fit, kinds_of};
+ghost use Rattle.hq_value.specs.Bucket.{Buckets, share, rows_of};
+ghost use Rattle.hq_table.specs.Kept.{Keeps};
 ghost use Rattle.hq_table.specs.Home.{IsQuiet};
 
 use crate::append::append;
 use crate::scan::scan;
 use crate::spread::spread;
-use hq_block::{files_grow_by_blocks, fits};
+use hq_block::files_grow_by_blocks;
 use hq_lane::Lane;
 use hq_store::{MemFile, MemSeal, MemStore};
-use hq_value::{Column, Kind, Kinds, Name, NoMemory, Row, Sequence, TableDef};
+use hq_value::{Kinds, Name, NoMemory, Row, TableDef, all_fit, kinds_of};
 use std::alloc::Global;
 use std::marker::Model;
 use std::mem;
@@ -49,16 +50,6 @@ impl Drop for Table {
     }
 }
 
-fn kinds_of(alloc: Global, columns: &[Column]) -> Result<Kinds, NoMemory>
-    ensures { IfOk result (λ kinds. kinds ≡ kinds_of columns.now) }
-{
-    let mut kinds = Sequence::new(alloc);
-    for column in columns {
-        kinds.push(column.kind)?;
-    }
-    Ok(kinds)
-}
-
 // Puts a lane where none is.
 fn put(slot: &mut Option<Lane<MemFile, MemSeal>>, lane: Lane<MemFile, MemSeal>)
     requires { slot.old ≡ None }
@@ -68,17 +59,6 @@ fn put(slot: &mut Option<Lane<MemFile, MemSeal>>, lane: Lane<MemFile, MemSeal>)
         None => {}
         Some(_lane) => unreachable!(),
     }
-}
-
-fn all_fit(kinds: &Kinds, rows: &[Row]) -> bool
-    ensures { IsTrue result ↔ All (Fits kinds.now) rows.now }
-{
-    for row in rows {
-        if !fits(kinds, row) {
-            return false;
-        }
-    }
-    true
 }
 
 fn no_seals(alloc: Global) -> Result<Vec<Option<MemSeal>>, NoMemory>
@@ -99,7 +79,8 @@ impl Table {
         ensures keys { IfOk result (λ table. table.keys ≡ def.keys) }
         ensures empty { IfOk result (λ table. Keeps table (λ b. [])) }
     {
-        let kinds = kinds_of(alloc, def.columns.as_slice())?;
+        def.keeps_the_rules();
+        let kinds = kinds_of(alloc, def.columns().as_slice())?;
         let seals = no_seals(alloc)?;
         files_grow_by_blocks();
         let lane = Lane::fresh(alloc, number, 0)?;
@@ -115,12 +96,13 @@ impl Table {
     pub fn is_named(&self, name: &Name) -> bool
         ensures { result ≡ bytes_eq self.now.name name.now }
     {
-        self.def.name == *name
+        self.def.name() == name
     }
 
     /// Whether each row has as many values as columns, each NULL or of its column's kind.
     pub fn fits(&self, rows: &[Row]) -> bool
-        ensures { IsTrue result ↔ All (Fits (kinds_of self.now.columns)) rows.now }
+        ensures test { result ≡ are_fit (kinds_of self.now.columns) rows.now }
+        ensures fact { IsTrue result ↔ All (Fits (kinds_of self.now.columns)) rows.now }
     {
         all_fit(&self.kinds, rows)
     }
@@ -140,7 +122,7 @@ impl Table {
         ensures err { OnErr result (self.new ≡ self.old) }
         ensures quiet { IsQuiet store.new }
     {
-        let buckets = spread(alloc, rows, &self.def.keys)?;
+        let buckets = spread(alloc, rows, self.def.keys())?;
         let Some(lane) = self.lane.take() else {
             unreachable!();
         };

@@ -1,25 +1,25 @@
 use Rattle.std.proofs.Common.{◌≤◌, length, arith}
-use Rattle.std.proofs.lemmas.List.Concat.{length-flat_map}
 use Rattle.std.proofs.lemmas.List.Elements.{recursion_from_All}
-use Rattle.hq_block.specs.Row.{Fits, row_bytes}
-use Rattle.hq_block.specs.Block.{body_bytes}
-use Rattle.hq_block.proofs.Lengths.{rows_below, few_columns, block_written, block_spelled}
+use Rattle.hq_value.specs.Kinds.{Fits}
+use Rattle.hq_block.specs.Block.{body_bytes, block_length}
+use Rattle.hq_block.proofs.Lengths.{rows_below, few_columns}
+use Rattle.hq_block.proofs.Written.{block_spelled}
 use Rattle.hq_block.proofs.encode.encode_block.Goals as goal
 
-pub body_length-requires : goal.body_length-requires
-body_length-requires c = few_columns c.args.kinds.now c.args.rows.now c.requires.few_kinds c.requires.fit
+pub body_length-requires-clause-few : goal.body_length-requires-clause-few
+body_length-requires-clause-few c = few_columns c.args.kinds.now c.args.rows.now c.requires.few_kinds c.requires.fit
 
-pub overflow_cast-rows : goal.overflow_cast-rows
-overflow_cast-rows c =
+pub overflow_cast-head-3 : goal.overflow_cast-head-3
+overflow_cast-head-3 c =
     let kinds = c.args.kinds.now in
     let rows = c.args.rows.now in
     let below : length rows ≤ length (body_bytes rows) = rows_below kinds rows c.requires.some_kinds (recursion_from_All (Fits kinds) rows c.requires.fit) in
-    omega (arith, below, length-flat_map row_bytes rows, c.in-Some.ensures.size, c.in-Some.ensures.room)
-
-pub returns-clause-written : goal.returns-clause-written
-returns-clause-written c =
-    block_written c.args.kinds.now c.args.rows.now c.len.result c.in-Some.size c.in_ok-block.block.items c.put_head.new.out.items c.put_rows.new.out.items c.len.ensures c.in_ok-block.ensures.items c.in-Some.ensures.size c.in_ok-put_head.ensures c.in_ok-put_rows.ensures.appended
+    omega (arith, below, c.in-Some.ensures.size, c.in-Some.ensures.room)
 
 pub returns-clause-spelled : goal.returns-clause-spelled
 returns-clause-spelled c =
-    block_spelled c.args.kinds.now c.args.rows.now c.in-Some.size c.requires.some_kinds c.requires.few_kinds c.requires.some_rows c.in_ok-put_rows.ensures.storable c.in-Some.ensures.size c.in-Some.ensures.room
+    let kinds = c.args.kinds.now in
+    let rows = c.args.rows.now in
+    let bounds = rw c.as_slice.ensures at c.written_length-bounds.ensures.length in
+    let short : block_length kinds rows ≤ 65536 = omega (arith, bounds, c.in-Some.ensures.size, c.in-Some.ensures.room, c.written_length-bounds.ensures.short) in
+    block_spelled kinds rows c.requires.some_kinds c.requires.few_kinds c.requires.some_rows c.in_ok-put_rows.ensures.storable short

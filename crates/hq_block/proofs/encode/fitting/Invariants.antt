@@ -1,11 +1,9 @@
-use Rattle.std.proofs.Common.{◌≡◌, ◌+◌, drop, take}
-use Rattle.std.specs.List.{sum_by}
-use Rattle.hq_block.specs.Row.{row_length}
-use Rattle.hq_block.specs.Block.{fitting, fitting_a_block}
+use Rattle.std.proofs.Common.{◌≡◌, ◌≤◌, length, take}
+use Rattle.hq_block.specs.Block.{body_bytes, block_length}
 use Rattle.hq_block.proofs.encode.fitting.Given as goal
 
 abbrev pub invariant-loop-i : goal.invariant-loop-i
 invariant-loop-i l = record {
-  so_far : fitting_a_block l.rows ≡ l.i + 1 + fitting l.room (drop l.i l.others);
-  taken : l.room + sum_by row_length (take (l.i + 1) l.rows) ≡ 65520;
+  so_far : l.body ≡ length (body_bytes (take l.i l.rows));
+  room : block_length l.kinds (take l.i l.rows) ≤ 65536;
 }

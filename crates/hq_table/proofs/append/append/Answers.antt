@@ -1,6 +1,6 @@
-use Rattle.std.proofs.Common.{◌<◌, ℕ, slice_set, ap, sym, refl, ◌∙◌}
-use Rattle.hq_lane.specs.Lanes.{place_of}
-use Rattle.hq_lane.specs.Places.{PlaceState, base_bytes, good_bytes}
+use Rattle.std.proofs.Common.{arith, ◌<◌, ℕ, slice_set, ap, sym, refl, ◌∙◌}
+use Rattle.hq_lane.specs.Lanes.{file_of}
+use Rattle.hq_lane.specs.BucketFiles.{BucketState, base_bytes, good_bytes}
 use Rattle.hq_table.specs.Kept.{bytes_in}
 use Rattle.hq_table.specs.Home.{files_of, rows_at}
 use Rattle.hq_table.proofs.Parts.{zeros, zeros-within, first-part, same-heads, place-before, place-after, good-is, added-told, whole-told}
@@ -10,14 +10,14 @@ pub write-written-requires-clause-whole : goal.write-written-requires-clause-who
 write-written-requires-clause-whole c = λ b within.
     let are = c.in-Ok.ensures.parts in
     let first = first-part c.in-Ok.parts.items c.index_mut.result.now are.sixteen c.index_mut.ensures.value in
-    ap (λ (p : PlaceState). p.torn) (place-before c.args.lane c.in-Ok.parts.items c.index_mut.result.now are first b within) ∙ (c.requires.home b within).whole
+    ap (λ (p : BucketState). p.torn) (place-before c.args.lane c.in-Ok.parts.items c.index_mut.result.now are first b within) ∙ (c.requires.home b within).whole
 
 pub whole-whole-requires : goal.whole-whole-requires
 whole-whole-requires c =
     let are = c.in-Ok.ensures.parts in
     let parts = c.in-Ok.parts.items in
     let first = first-part parts c.index_mut.result.now are.sixteen c.index_mut.ensures.value in
-    c.parts_make_a_lane.ensures.one c.args.lane zeros parts (slice_set parts 0 c.write-written.new.part) zeros-within are (same-heads parts c.index_mut.result.now c.write-written.new.part first c.write-written.ensures.head)
+    (omega arith, (omega arith, c.parts_make_a_lane.ensures.one c.args.lane zeros parts (slice_set parts 0 c.write-written.new.part) zeros-within are (same-heads parts c.index_mut.result.now c.write-written.new.part first c.write-written.ensures.head)))
 
 pub settle-ended-requires-clause-whole : goal.settle-ended-requires-clause-whole
 settle-ended-requires-clause-whole c =
@@ -27,7 +27,7 @@ settle-ended-requires-clause-whole c =
     let new = c.write-written.new.part in
     let first = first-part parts now are.sixteen c.index_mut.ensures.value in
     let after = λ (b : ℕ) (within : b < 16). place-after c.whole-whole.result parts new b are.sixteen (c.parts_make_a_lane.ensures.places c.args.lane c.whole-whole.result zeros parts (slice_set parts 0 new) zeros-within are (same-heads parts now new first c.write-written.ensures.head) c.whole-whole.ensures b within) in
-    whole-told c.args.kinds.now (rows_at c.args.buckets.now) (place_of now.places) (place_of new.places) (place_of c.whole-whole.result.places) c.write-written.result c.write-written.ensures.written after
+    whole-told c.args.kinds.now (rows_at c.args.buckets.now) (file_of now.files) (file_of new.files) (file_of c.whole-whole.result.files) c.write-written.result c.write-written.ensures.written after
 
 pub settle-ended-requires-clause-no_seal : goal.settle-ended-requires-clause-no_seal
 settle-ended-requires-clause-no_seal c = λ b within.
@@ -37,7 +37,7 @@ settle-ended-requires-clause-no_seal c = λ b within.
     let new = c.write-written.new.part in
     let first = first-part parts now are.sixteen c.index_mut.ensures.value in
     let after = place-after c.whole-whole.result parts new b are.sixteen (c.parts_make_a_lane.ensures.places c.args.lane c.whole-whole.result zeros parts (slice_set parts 0 new) zeros-within are (same-heads parts now new first c.write-written.ensures.head) c.whole-whole.ensures b within) in
-    let fresh = λ (p : PlaceState). p.fresh in
+    let fresh = λ (p : BucketState). p.fresh in
     ap fresh after ∙ (c.write-written.ensures.grown b within).1.fresh ∙ ap fresh (place-before c.args.lane parts now are first b within) ∙ (c.requires.home b within).no_seal
 
 pub settle-ended-requires-clause-under : goal.settle-ended-requires-clause-under
@@ -58,6 +58,6 @@ returns-in-Ok-clause-added c =
     let new = c.write-written.new.part in
     let first = first-part parts now are.sixteen c.index_mut.ensures.value in
     let after = λ (b : ℕ) (within : b < 16). ap good_bytes (place-after c.whole-whole.result parts new b are.sixteen (c.parts_make_a_lane.ensures.places c.args.lane c.whole-whole.result zeros parts (slice_set parts 0 new) zeros-within are (same-heads parts now new first c.write-written.ensures.head) c.whole-whole.ensures b within)) in
-    added-told c.args.kinds.now (rows_at c.args.buckets.now) (bytes_in (files_of c.args.seals.now.items)) (bytes_in (files_of c.settle-ended.new.seals.items)) (place_of now.places) (place_of new.places) (λ b. good_bytes (place_of c.whole-whole.result.places b)) c.settle-ended.result c.write-written.result
+    added-told c.args.kinds.now (rows_at c.args.buckets.now) (bytes_in (files_of c.args.seals.now.items)) (bytes_in (files_of c.settle-ended.new.seals.items)) (file_of now.files) (file_of new.files) (λ b. good_bytes (file_of c.whole-whole.result.files b)) c.settle-ended.result c.write-written.result
     c.settle-ended.ensures.written c.settle-ended.ensures.under c.write-written.ensures.written after
     (λ b within. ap good_bytes (place-before c.args.lane parts now are first b within) ∙ good-is _ _ (c.requires.home b within))

@@ -1,7 +1,7 @@
 use Rattle.std.proofs.Common.{◌≡◌, ◌++◌, arith, ap, sym, subst, ◌∙◌}
 use Rattle.hq_block.specs.Block.{FileRows}
 use Rattle.hq_lane.specs.Scans.{IsFile}
-use Rattle.hq_table.specs.Kept.{joined}
+use Rattle.hq_value.specs.Bucket.{joined}
 use Rattle.hq_table.proofs.Scanned.{slot-bytes, joined-more}
 use Rattle.hq_table.proofs.scan.scan.Goals as goal
 

@@ -1,6 +1,7 @@
 use Rattle.std.proofs.Common.{◌≡◌, ◌<◌, ℕ}
 use Rattle.hq_block.specs.Block.{FileRows}
-use Rattle.hq_table.specs.Kept.{Buckets, bytes_in, joined}
+use Rattle.hq_value.specs.Bucket.{Buckets, joined}
+use Rattle.hq_table.specs.Kept.{bytes_in}
 use Rattle.hq_table.specs.Home.{IsQuiet, files_of}
 use Rattle.hq_table.proofs.scan.scan.Given as goal
 

@@ -1,6 +1,6 @@
 use Rattle.std.proofs.Common.{◌≡◌, ◌+◌, ◌++◌, [], length, rules, arith, sym, ap, subst, ◌∙◌, append-nil}
 use Rattle.std.proofs.lemmas.List.{length-set, nil_from_length}
-use Rattle.hq_table.specs.Kept.{share_from}
+use Rattle.hq_value.specs.Bucket.{share_from}
 use Rattle.hq_table.specs.Home.{rows_at}
 use Rattle.hq_table.proofs.Sharing.{share-row, none-yet, AllKeyed, keyed-rest}
 use Rattle.hq_table.proofs.spread.spread.Goals as goal

@@ -1,5 +1,5 @@
 use Rattle.std.proofs.Common.{◌≡◌, ◌<◌, ◌+◌, ◌++◌, ℕ, All, length}
-use Rattle.hq_table.specs.Kept.{share_from}
+use Rattle.hq_value.specs.Bucket.{share_from}
 use Rattle.hq_table.specs.Home.{rows_at}
 use Rattle.hq_table.proofs.spread.spread.Given as goal
 

@@ -6,6 +6,6 @@ use Rattle.hq_lane.proofs.lane.Lane.is_clean.Goals as goal
 
 pub returns-clause-exactly : goal.returns-clause-exactly
 returns-clause-exactly g c =
-    let places = c.self.inside.places.items in
-    subst (λ (b : Bool). IsTrue b ↔ AreClean c.args.self.now.places) (sym c.all_clean.ensures.clean)
-    (subst (λ (s : LaneState). IsTrue (are_clean places) ↔ AreClean s.places) c.self.view_is (are_clean-exactly places c.self.invariant))
+    let files = c.self.inside.files in
+    subst (λ (b : Bool). IsTrue b ↔ AreClean c.args.self.now.files) (sym c.all_clean.ensures.clean)
+    (subst (λ (s : LaneState). IsTrue (are_clean files) ↔ AreClean s.files) c.self.view_is (are_clean-exactly files c.all_clean.ensures.sixteen))

@@ -1,0 +1,15 @@
+-- The files below `i` are sealed, and those from `i` on are as before.
+use Rattle.std.proofs.Common.{◌≡◌, ℕ, ◌<◌, ◌≤◌}
+use Rattle.hq_value.specs.Causes.{GoesOn}
+use Rattle.hq_lane.specs.BucketFiles.{IsSealed, KeepsFile}
+use Rattle.hq_lane.specs.Lanes.{file_of}
+use Rattle.hq_lane.proofs.bucket_files.seal_each.Given as goal
+
+abbrev pub invariant-loop-i : goal.invariant-loop-i
+invariant-loop-i g l = record {
+  sealed : (b : ℕ) → b < l.i → IsSealed g.F.StoredFile.tells g.Z.SealCopy.tells (file_of l.files b);
+  kept : (b : ℕ) → b < l.i → KeepsFile g.F.StoredFile.tells (file_of l.initial.files b) (file_of l.files b);
+  no_fault : g.S.Store.faults l.store ≡ g.S.Store.faults l.initial.store;
+  rest : (b : ℕ) → l.i ≤ b → file_of l.files b ≡ file_of l.initial.files b;
+  store : GoesOn g.S.Store.faults g.S.Store.given g.S.Store.sound l.initial.store l.store;
+}

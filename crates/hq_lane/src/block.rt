@@ -1,0 +1,201 @@
+//! One block read.
+ghost use Rattle.std.specs.Prelude.{◌≡◌, ◌+◌, ◌-◌, ◌^◌, ◌<◌, ◌≤◌, ◌++◌, ℕ, List, length, take, min, slice_range, vec_len, IsTrue, IfOk, IsNone, OnOk, OnErr, IsErrOf};
+ghost use Rattle.std.specs.Option.{ForSome};
+ghost use Rattle.hq_value.specs.declared.kind.Kind.{Kind as Sort};
+ghost use Rattle.hq_value.specs.Causes.{Rose, GoesOn, GoesOnGiving, IsSteady};
+ghost use Rattle.hq_block.specs.Block.{IsBlock};
+ghost use Rattle.hq_lane.specs.Scans.{BeginsNoBlock, HasReadBlock, IsBadAt, TakesBlock};
+ghost use Rattle.hq_lane.specs.Sizes.{size_at};
+
+use crate::range::Readable;
+use hq_block::{BlockFault, decode_block_into};
+use hq_store::Store;
+use hq_value::{Kinds, Row, read_u32};
+use std::alloc::Global;
+
+/// How many bytes a block has before its body.
+const HEAD: usize = 16;
+
+/// Why no block was read.
+#[derive(Clone, Copy, Debug, PartialEq, Eq)]
+pub(crate) enum Stop {
+    Store,
+    BadBlock,
+    NoMemory,
+}
+
+/// Reads the block that begins at `at`, its head first, and adds its rows. What is read is left in `bytes`: the block,
+/// or bytes with which none begins.
+pub(crate) fn read_block<S: Store, R: Readable<S>>(
+    alloc: Global,
+    store: &mut S,
+    range: &R,
+    at: u64,
+    to: u64,
+    kinds: &Kinds,
+    bytes: &mut Vec<u8>,
+    rest: &mut Vec<u8>,
+    rows: &mut Vec<Row>,
+) -> Result<(), Stop>
+    requires before { at < to }
+    requires within { to ≤ R.end range.now }
+    ensures some { IsErrOf result Stop.BadBlock → 0 < length bytes.new.items }
+    ensures long { OnOk result (0 < vec_len bytes.new) }
+    ensures within { OnOk result (at + vec_len bytes.new ≤ to) }
+    ensures found { OnOk result (HasReadBlock R.tells (R.bytes range.now) at (vec_len bytes.new) kinds.now rows.old.items rows.new.items) }
+    ensures gave { OnOk result (GoesOnGiving S.faults S.given S.sound (vec_len bytes.new) store.old store.new) }
+    ensures bad { IsErrOf result Stop.BadBlock → IsBadAt kinds.now at to at bytes.new.items }
+    ensures bad_told { IsErrOf result Stop.BadBlock → IsTrue R.tells → bytes.new.items ≡ slice_range (R.bytes range.now) at (at + length bytes.new.items) }
+
+    ensures cause { IsErrOf result Stop.Store → Rose (S.faults store.old) (S.faults store.new) }
+    ensures store { IsSteady S.faults S.sound store.old store.new }
+{
+    let left = (to - at) as usize;
+    let Some(len) = read_front(store, range, at, left, bytes)? else {
+        return Err(Stop::BadBlock);
+    };
+    read_rest(alloc, store, range, at, len, kinds, bytes, rest, rows)?;
+    Ok(())
+}
+
+// Reads a block's first 16 bytes, or as many as are left, and answers how many the block has. None comes exactly where
+// these bytes do not go on as a block within those that are left.
+fn read_front<S: Store, R: Readable<S>>(
+    store: &mut S,
+    range: &R,
+    at: u64,
+    left: usize,
+    bytes: &mut Vec<u8>,
+) -> Result<Option<usize>, Stop>
+    requires some { 0 < left }
+    requires within { at + left ≤ R.end range.now }
+    ensures size { IfOk result (λ found. ForSome found (λ len. len ≡ 16 + size_at bytes.new.items)) }
+    ensures some { IfOk result (λ found. ForSome found (λ len. 16 < len)) }
+    ensures within { IfOk result (λ found. ForSome found (λ len. len ≤ left)) }
+    ensures front { IfOk result (λ found. ForSome found (λ _. vec_len bytes.new ≡ 16)) }
+    ensures none { IfOk result (λ found. IsNone found → (kinds : List Sort) (more : List ℕ) → length (bytes.new.items ++ more) ≤ left → BeginsNoBlock kinds (bytes.new.items ++ more)) }
+    ensures long { OnOk result (vec_len bytes.new ≡ min left 16) }
+    ensures told { OnOk result (IsTrue R.tells → bytes.new.items ≡ slice_range (R.bytes range.now) at (at + vec_len bytes.new)) }
+    ensures gave { OnOk result (GoesOnGiving S.faults S.given S.sound (vec_len bytes.new) store.old store.new) }
+    ensures gave_none { OnErr result (GoesOn S.faults S.given S.sound store.old store.new) }
+    ensures not_bad { IsErrOf result Stop.BadBlock → ⊥ }
+    ensures cause { IsErrOf result Stop.Store → Rose (S.faults store.old) (S.faults store.new) }
+{
+    bytes.clear();
+    let Ok(()) = bytes.resize(left.min(HEAD), 0) else {
+        return Err(Stop::NoMemory);
+    };
+    let Ok(()) = range.read(store, at, bytes) else {
+        return Err(Stop::Store);
+    };
+    Ok(block_size(bytes, left))
+}
+
+// How many bytes the block has that these, at most 16, begin. None comes exactly where they do not go on as a block
+// within so many.
+fn block_size(bytes: &[u8], left: usize) -> Option<usize>
+    requires { length bytes.now ≡ min left 16 }
+    ensures size { ForSome result (λ len. len ≡ 16 + size_at bytes.now) }
+    ensures some { ForSome result (λ len. 16 < len) }
+    ensures within { ForSome result (λ len. len ≤ left) }
+    ensures front { ForSome result (λ _. length bytes.now ≡ 16) }
+    ensures none { IsNone result → (kinds : List Sort) (more : List ℕ) → length (bytes.now ++ more) ≤ left → BeginsNoBlock kinds (bytes.now ++ more) }
+{
+    if left < HEAD {
+        return None;
+    }
+    let Some(size) = read_u32(bytes, 4) else {
+        unreachable!();
+    };
+    if size == 0 {
+        return None;
+    }
+    let len = HEAD + size as usize;
+    if left < len {
+        return None;
+    }
+    Some(len)
+}
+
+// Reads the rest of a block of so many bytes, of which the first 16 are there, by way of `rest`, and adds its rows.
+fn read_rest<S: Store, R: Readable<S>>(
+    alloc: Global,
+    store: &mut S,
+    range: &R,
+    at: u64,
+    len: usize,
+    kinds: &Kinds,
+    bytes: &mut Vec<u8>,
+    rest: &mut Vec<u8>,
+    rows: &mut Vec<Row>,
+) -> Result<(), Stop>
+    requires front { vec_len bytes.old ≡ 16 }
+    requires size { len ≡ 16 + size_at bytes.old.items }
+    requires some { 16 < len }
+    requires within { at + len ≤ R.end range.now }
+    requires fits { at + len < 2 ^ 64 }
+    requires told { IsTrue R.tells → bytes.old.items ≡ slice_range (R.bytes range.now) at (at + 16) }
+    ensures long { OnOk result (vec_len bytes.new ≡ len) }
+    ensures found { OnOk result (HasReadBlock R.tells (R.bytes range.now) at len kinds.now rows.old.items rows.new.items) }
+    ensures gave { OnOk result (GoesOnGiving S.faults S.given S.sound (len - 16) store.old store.new) }
+    ensures bad { IsErrOf result Stop.BadBlock → (more : List ℕ) → BeginsNoBlock kinds.now (bytes.new.items ++ more) }
+    ensures bad_long { IsErrOf result Stop.BadBlock → length bytes.new.items ≡ len }
+    ensures bad_told { IsErrOf result Stop.BadBlock → IsTrue R.tells → bytes.new.items ≡ slice_range (R.bytes range.now) at (at + len) }
+
+    ensures cause { IsErrOf result Stop.Store → Rose (S.faults store.old) (S.faults store.new) }
+    ensures store { IsSteady S.faults S.sound store.old store.new }
+{
+    fill_rest(store, range, at, len, bytes, rest)?;
+    take_block(alloc, kinds, bytes, rows)?;
+    Ok(())
+}
+
+// Adds the bytes behind the first 16, up to so many.
+fn fill_rest<S: Store, R: Readable<S>>(
+    store: &mut S,
+    range: &R,
+    at: u64,
+    len: usize,
+    bytes: &mut Vec<u8>,
+    rest: &mut Vec<u8>,
+) -> Result<(), Stop>
+    requires front { vec_len bytes.old ≡ 16 }
+    requires some { 16 < len }
+    requires within { at + len ≤ R.end range.now }
+    requires fits { at + len < 2 ^ 64 }
+    requires told { IsTrue R.tells → bytes.old.items ≡ slice_range (R.bytes range.now) at (at + 16) }
+    ensures long { OnOk result (vec_len bytes.new ≡ len) }
+    ensures front { OnOk result (take 16 bytes.new.items ≡ bytes.old.items) }
+    ensures told { OnOk result (IsTrue R.tells → bytes.new.items ≡ slice_range (R.bytes range.now) at (at + len)) }
+    ensures gave { OnOk result (GoesOnGiving S.faults S.given S.sound (len - 16) store.old store.new) }
+    ensures not_bad { IsErrOf result Stop.BadBlock → ⊥ }
+    ensures cause { IsErrOf result Stop.Store → Rose (S.faults store.old) (S.faults store.new) }
+    ensures store { IsSteady S.faults S.sound store.old store.new }
+{
+    rest.clear();
+    let Ok(()) = rest.resize(len - HEAD, 0) else {
+        return Err(Stop::NoMemory);
+    };
+    let Ok(()) = range.read(store, at + HEAD as u64, rest) else {
+        return Err(Stop::Store);
+    };
+    let Ok(()) = bytes.extend_from_slice(rest) else {
+        return Err(Stop::NoMemory);
+    };
+    Ok(())
+}
+
+// Adds the rows of a block that has as many bytes as it says.
+fn take_block(alloc: Global, kinds: &Kinds, bytes: &[u8], rows: &mut Vec<Row>) -> Result<(), Stop>
+    requires enough { 16 ≤ length bytes.now }
+    requires says { length bytes.now ≡ 16 + size_at bytes.now }
+    ensures taken { OnOk result (TakesBlock kinds.now bytes.now rows.old.items rows.new.items) }
+    ensures bad { IsErrOf result Stop.BadBlock → (more : List ℕ) → BeginsNoBlock kinds.now (bytes.now ++ more) }
+    ensures not_store { IsErrOf result Stop.Store → ⊥ }
+{
+    match decode_block_into(alloc, kinds, bytes, rows) {
+        Ok(_) => Ok(()),
+        Err(BlockFault::NotABlock) => Err(Stop::BadBlock),
+        Err(BlockFault::NoMemory) => Err(Stop::NoMemory),
+    }
+}
