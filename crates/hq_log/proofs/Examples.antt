@@ -4,12 +4,12 @@ use Rattle.std.proofs.Math.Dec.{eqb-suc-zero}
 use Rattle.std.specs.List.{list_any}
 use Rattle.hq_value.specs.declared.entry.Entry.{Entry}
 use Rattle.hq_value.specs.declared.entry.EntryKind.{EntryKind}
-use Rattle.hq_value.specs.declared.entry.EntryKind.TheVariants.{Look, Create, Lend, Sweep, Adopt, Commit, Back, Mark}
+use Rattle.hq_value.specs.declared.entry.EntryKind.TheVariants.{Look, Create, Lend, Sweep, Adopt, Commit, Back, Mark, Alter, Restart}
 use Rattle.hq_log.specs.declared.place.Place.TheVariants as place
 use Rattle.hq_log.specs.declared.place.Next.TheVariants as which
 use Rattle.hq_log.specs.Places.{next_place, is_swept_by}
 use Rattle.hq_log.specs.Pools.{pool, unborn_places}
-use Rattle.hq_log.specs.Marks.{marks, marks_before, up_bits}
+use Rattle.hq_log.specs.Marks.{marks, marks_before}
 use Rattle.hq_log.specs.Legal.{IsLawful, IsLegal}
 
 abbrev by : ℕ → ℕ → EntryKind → Entry
@@ -87,5 +87,24 @@ marked-marks = refl
 marked-before : marks_before 3 marked 2 ≡ true ∷ false ∷ true ∷ []
 marked-before = refl
 
-marked-bits : up_bits (marks_before 3 marked 2) ≡ 5
-marked-bits = refl
+-- a restart finds each lane that was lent at home and without a tail, and each node up
+abbrev restarted : List Entry
+restarted = failed ++ by 3 1 (Lend 0 1) ∷ by 3 1 (Mark 1 false) ∷ by 0 0 Restart ∷ []
+
+restarted-next : next_place (pool restarted 0) ≡ which.Clean 0
+restarted-next = refl
+
+restarted-out : slice_get (pool restarted 0) 1 ≡ Some place.Clean
+restarted-out = refl
+
+restarted-unborn : slice_get (pool restarted 0) 2 ≡ Some place.Unborn
+restarted-unborn = refl
+
+restarted-marks : marks 3 restarted ≡ true ∷ true ∷ true ∷ []
+restarted-marks = refl
+
+restart-by_session : IsLawful 3 failed 1 Restart → ⊥
+restart-by_session k = cc
+
+altered-places : pool (lent ++ by 2 1 Alter ∷ []) 0 ≡ pool lent 0
+altered-places = refl

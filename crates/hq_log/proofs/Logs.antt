@@ -6,7 +6,7 @@ use Rattle.hq_value.specs.declared.entry.EntryKind.{EntryKind}
 use Rattle.hq_value.specs.declared.entry.EntryKind.TheVariants as entry
 use Rattle.hq_log.specs.declared.place.Place.{Place}
 use Rattle.hq_log.specs.declared.place.Place.TheVariants.{Out, Sweeping}
-use Rattle.hq_log.specs.Pools.{pool, places_after, unborn_places, committed, home}
+use Rattle.hq_log.specs.Pools.{pool, places_after, unborn_places, committed, home, restarted}
 use Rattle.hq_log.specs.Marks.{marks, marks_after}
 use Rattle.hq_log.specs.Legal.{IsLawful, AreLawful, IsLegal}
 
@@ -25,6 +25,8 @@ length-places_after t places k entry.Create = refl
 length-places_after t places k (entry.Full u) = refl
 length-places_after t places k entry.Idle = refl
 length-places_after t places k (entry.Mark node up) = refl
+length-places_after t places k entry.Alter = refl
+length-places_after t places k entry.Restart = length-map places restarted
 
 -- a fold whose steps keep the length keeps it
 length-fold : {A B : Type 0} (step : List A → B → List A) → ((xs : List A) (y : B) → length (step xs y) ≡ length xs) → (ys : List B) (xs : List A) → length (fold step xs ys) ≡ length xs
@@ -45,6 +47,8 @@ length-marks_after marks entry.Idle = refl
 length-marks_after marks (entry.Adopt u n) = refl
 length-marks_after marks entry.Commit = refl
 length-marks_after marks (entry.Back u n clean) = refl
+length-marks_after marks entry.Alter = refl
+length-marks_after marks entry.Restart = length-replicate (length marks) true
 
 pub length-marks : (nodes : ℕ) (log : List Entry) → length (marks nodes log) ≡ nodes
 length-marks nodes log = length-fold (λ marks e. marks_after marks e.kind) (λ marks e. length-marks_after marks e.kind) log (replicate nodes true) ∙ length-replicate nodes true

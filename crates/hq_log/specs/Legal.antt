@@ -32,6 +32,8 @@ IsAt log t n place = slice_get (pool log t) n ≡ Some place
 abbrev pub IsLawful : ℕ → List Entry → ℕ → EntryKind → Type 0
 IsLawful nodes log k entry.Look = Unit {0}
 IsLawful nodes log k entry.Create = Unit {0}
+IsLawful nodes log k entry.Alter = Unit {0}
+IsLawful nodes log k entry.Restart = k ≡ 0
 IsLawful nodes log k (entry.Mark node up) = node < nodes
 IsLawful nodes log k (entry.Lend t n) = HasNoLane log k t × ((next_place (pool log t) ≡ which.Clean n) ⊎ (next_place (pool log t) ≡ which.Unborn n))
 IsLawful nodes log k (entry.Sweep t n) = (HasNoLane log k t × (next_place (pool log t) ≡ which.Dirty n)) ⊎ IsFirstDirty log t n

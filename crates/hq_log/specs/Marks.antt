@@ -1,16 +1,15 @@
 -- Which nodes are marked up, as the log leaves it.
 --     marks nodes log             of each node, whether it is up
 --     marks_before nodes log p    the same before place p of the log
---     Shows value marks           the value has these marks
-use Rattle.std.specs.Prelude.{◌≡◌, ℕ, ◌+◌, ◌*◌, Bool, true, List, [], ◌∷◌, length, take, slice_set, replicate, fold, if◌then◌else◌}
+use Rattle.std.specs.Prelude.{ℕ, Bool, true, List, length, take, slice_set, replicate, fold}
 use Rattle.hq_value.specs.declared.entry.Entry.{Entry}
 use Rattle.hq_value.specs.declared.entry.EntryKind.{EntryKind}
 use Rattle.hq_value.specs.declared.entry.EntryKind.TheVariants as entry
-use Rattle.hq_value.specs.declared.marks.Marks.{Marks}
 
 -- the marks after an entry
 abbrev pub marks_after : List Bool → EntryKind → List Bool
 marks_after marks (entry.Mark node up) = slice_set marks node up
+marks_after marks entry.Restart = replicate (length marks) true
 marks_after marks _ = marks
 
 -- all nodes up, changed by the entries
@@ -20,13 +19,3 @@ marks nodes log = fold (λ marks e. marks_after marks e.kind) (replicate nodes t
 -- the same by the entries before place p
 abbrev pub marks_before : ℕ → List Entry → ℕ → List Bool
 marks_before nodes log p = marks nodes (take p log)
-
--- the number whose bit n is set where node n is up
-abbrev pub up_bits : List Bool → ℕ
-up_bits [] = 0
-up_bits (up ∷ marks) = (if up then 1 else 0) + 2 * up_bits marks
-
--- the value has these marks
-pub record Shows (value : Marks) (marks : List Bool) : Type 0 where
-  pub nodes : value.nodes ≡ length marks
-  pub up : value.up ≡ up_bits marks

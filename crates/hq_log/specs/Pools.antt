@@ -21,6 +21,14 @@ home clean = if clean then Clean else Dirty
 abbrev pub committed : ℕ → Place → Place
 committed k place = if is_out_to k place then Clean else place
 
+-- a place after a restart
+abbrev pub restarted : Place → Place
+restarted Unborn = Unborn
+restarted Clean = Clean
+restarted Dirty = Clean
+restarted (Out j) = Clean
+restarted (Sweeping j) = Clean
+
 -- the places of table t after an entry by session k
 abbrev pub places_after : ℕ → List Place → ℕ → EntryKind → List Place
 places_after t places k (entry.Lend u n) = if t == u then slice_set places n (Out k) else places
@@ -33,6 +41,8 @@ places_after t places k entry.Create = places
 places_after t places k (entry.Full u) = places
 places_after t places k entry.Idle = places
 places_after t places k (entry.Mark node up) = places
+places_after t places k entry.Alter = places
+places_after t places k entry.Restart = map restarted places
 
 -- the 64 places of table t
 abbrev pub pool : List Entry → ℕ → List Place

@@ -11,6 +11,3 @@ pub use hq_log::{Next, Place};
 pub use lent::Lent;
 pub use pool::Pool;
 pub use slot::Slot;
-
-#[cfg(test)]
-mod tests;

@@ -1,20 +1,9 @@
 -- A table as a look saw it, as contracts see it.
---     definition def          the parts of a table's definition
 --     seal_in lanes n b       the seal of the file that place n of the lanes has in bucket b
 --     table_length lanes      how many bytes lie under the seals
 use Rattle.std.specs.Prelude.{ℕ, List, [], Option, Some, None, slice_index_or, sum_by}
 use Rattle.hq_store.specs.FileStep.{SealState}
-use Rattle.hq_value.specs.declared.table.TableDef.{TableDef}
-use Rattle.hq_value.specs.declared.table.Column.{Column}
-
--- the parts of a table's definition
-pub record Definition : Type 0 where
-  pub name : List ℕ
-  pub columns : List Column
-  pub keys : List ℕ
-
-abbrev pub definition : TableDef → Definition
-definition def = record { name = def.name; columns = def.columns; keys = def.keys }
+use Rattle.hq_value.specs.Tables.{Definition}
 
 -- a lane's number, and the seal of each bucket's file that has one
 pub record LaneSealsState : Type 0 where

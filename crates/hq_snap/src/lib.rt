@@ -8,6 +8,3 @@ mod table_snap;
 pub use lane_seals::LaneSeals;
 pub use seal_slot::SealSlot;
 pub use table_snap::{TableSnap, copy_table};
-
-#[cfg(test)]
-mod tests;

@@ -1,6 +1,6 @@
 //! A table as a look saw it.
 ghost use Rattle.std.specs.Prelude.{◌≡◌, ◌*◌, ◌^◌, ◌≤◌, length, IfOk};
-ghost use Rattle.hq_snap.specs.Snaps.{definition, table_length};
+ghost use Rattle.hq_snap.specs.Snaps.{table_length};
 
 use crate::LaneSeals;
 use hq_store::SealCopy;
@@ -18,11 +18,11 @@ pub struct TableSnap<Z: SealCopy> {
 
 impl<Z: SealCopy> Model for TableSnap<Z> {
     ghost use Rattle.std.specs.Prelude.{◌≤◌, length};
-    ghost use Rattle.hq_snap.specs.Snaps.{TableSnapState, definition};
+    ghost use Rattle.hq_snap.specs.Snaps.{TableSnapState};
 
     ghost Value = { TableSnapState };
 
-    ghost view = { λ s. record { table = s.table; def = definition s.def; lanes = s.lanes.items } };
+    ghost view = { λ s. record { table = s.table; def = s.def; lanes = s.lanes.items } };
 
     ghost invariant = { λ s. length s.lanes.items ≤ 64 };
 }
@@ -39,7 +39,7 @@ impl<Z: SealCopy> TableSnap<Z> {
     }
 
     pub fn def(&self) -> &TableDef
-        ensures { definition result.now ≡ self.now.def }
+        ensures { result.now ≡ self.now.def }
     {
         &self.def
     }
@@ -68,9 +68,9 @@ pub fn copy_table<Z: SealCopy>(
     lanes: &[LaneSeals<Z>],
 ) -> Result<TableSnap<Z>, NoMemory>
     requires { length lanes.now ≤ 64 }
-    ensures { IfOk result (λ snap. snap ≡ record { table = table; def = definition def.now; lanes = lanes.now }) }
+    ensures { IfOk result (λ snap. snap ≡ record { table = table; def = def.now; lanes = lanes.now }) }
 {
-    let def = def.copy(alloc)?;
+    let def = def.copy()?;
     let lanes = copy_lanes(alloc, lanes)?;
     Ok(TableSnap { table, def, lanes })
 }
