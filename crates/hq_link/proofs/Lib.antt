@@ -1,0 +1,4 @@
+pub mod Numbers
+pub mod GramLaws
+pub mod PairLaws
+mod Examples

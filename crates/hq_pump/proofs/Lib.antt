@@ -1,0 +1,11 @@
+pub mod Steps
+pub mod Hearing
+pub mod Safety
+pub mod Turning
+pub mod Listening
+pub mod Work
+pub mod Over
+pub mod Streams
+pub mod Start
+pub mod Whole
+pub mod Ends

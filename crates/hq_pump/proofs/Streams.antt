@@ -1,0 +1,18 @@
+-- The two ends of each stream.
+use Rattle.std.proofs.Common.{◌≡◌, ℕ, zero, suc, ◌+◌, ◌<◌, ◌≤◌, List, [], ◌∷◌, ◌++◌, length, map, Option, Some, None, refl, sym, ap, subst, ◌∙◌, append_assoc, arith}
+use Rattle.std.specs.Prelude.{All, Vec, remove, slice_index_or}
+use Rattle.hq_pump.specs.declared.lane.Lane.{Lane}
+use Rattle.hq_pump.specs.Seen.{seen}
+use Rattle.hq_pump.specs.Pumping.{new_lane}
+
+-- the first stream and the others
+pub first_stream : {A : Type 0} (xs : List (ℕ × Vec ℕ A)) (x : ℕ × Vec ℕ A) (q m t : ℕ) → 0 < length xs → x ≡ slice_index_or xs 0 x → map (new_lane q m t) (seen xs) ≡ new_lane q m t (x.0, x.1.items) ∷ map (new_lane q m t) (seen (remove xs 0))
+first_stream [] x q m t lt e = absurd (omega (arith, lt))
+first_stream {A} (y ∷ ys) x q m t lt e = ap (λ (z : ℕ × Vec ℕ A). new_lane q m t (z.0, z.1.items) ∷ map (new_lane q m t) (seen ys)) (sym e)
+
+pub others_all : {A : Type 0} (P : ℕ × Vec ℕ A → Type 0) (xs : List (ℕ × Vec ℕ A)) → All P xs → All P (remove xs 0)
+others_all P [] all = all
+others_all P (x ∷ xs) all = λ k d lt. all (suc k) d (omega (arith, lt))
+
+pub one_made : (before now : List Lane) (lane : Lane) (all rest : List Lane) (old : List Lane) → all ≡ before ++ old → old ≡ lane ∷ rest → now ≡ before ++ lane ∷ [] → all ≡ now ++ rest
+one_made before now lane all rest old e first is = e ∙ ap (λ l. before ++ l) first ∙ sym (append_assoc before (lane ∷ []) rest) ∙ ap (λ l. l ++ rest) (sym is)

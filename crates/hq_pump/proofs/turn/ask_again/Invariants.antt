@@ -1,0 +1,10 @@
+use Rattle.std.proofs.Common.{◌≡◌, ℕ, ◌+◌, ◌*◌, ◌≤◌, ◌++◌, List, length, take, drop, map, None}
+use Rattle.hq_pump.specs.Exchange.{Run, asked_again}
+use Rattle.hq_pump.specs.Pumping.{at, AreIdle, work_left}
+use Rattle.hq_pump.proofs.turn.ask_again.Given as goal
+
+abbrev pub invariant-loop-i : goal.invariant-loop-i
+invariant-loop-i l = record {
+  asked : l.lanes.items ≡ map asked_again (take l.i l.fn.lanes.items) ++ drop l.i l.fn.lanes.items;
+  count : length l.lanes.items ≡ length l.fn.lanes.items;
+}

@@ -1,0 +1,4 @@
+pub mod Exchange
+pub mod Pumping
+pub mod Seen
+pub mod Safe

@@ -1,0 +1,6 @@
+//! The sending end of a stream.
+#![tactic(auto)]
+
+mod sender;
+
+pub use sender::Sender;
