@@ -15,7 +15,7 @@ use Rattle.hq_expr.specs.declared.lexeme.Lexeme.{Lexeme}
 use Rattle.hq_expr.specs.declared.lexeme.Lexeme.TheVariants as lexeme
 use Rattle.hq_expr.specs.declared.mark.Mark.{Mark}
 use Rattle.hq_expr.specs.declared.mark.Mark.TheVariants as m
-use Rattle.hq_expr.specs.declared.tree.ArithKind.TheVariants.{Minus}
+use Rattle.hq_value.specs.declared.operator.ArithKind.TheVariants.{Minus}
 use Rattle.hq_expr.specs.declared.tree.Literal.TheVariants as lit
 use Rattle.hq_expr.specs.declared.tree.SqlExpr.{SqlExpr}
 use Rattle.hq_expr.specs.declared.tree.SqlExpr.TheVariants as e

@@ -7,8 +7,8 @@ use Rattle.hq_expr.specs.Reader as r
 use Rattle.hq_expr.specs.declared.lexeme.Lexeme.{Lexeme}
 use Rattle.hq_expr.specs.declared.lexeme.Lexeme.TheVariants.{Mark, Name, Digits}
 use Rattle.hq_expr.specs.declared.mark.Mark.TheVariants as m
-use Rattle.hq_expr.specs.declared.tree.ArithKind.TheVariants.{Plus, Minus, Times}
-use Rattle.hq_expr.specs.declared.tree.CompareKind.TheVariants.{Equal}
+use Rattle.hq_value.specs.declared.operator.ArithKind.TheVariants.{Plus, Minus, Times}
+use Rattle.hq_value.specs.declared.operator.CompareKind.TheVariants.{Equal}
 use Rattle.hq_expr.specs.declared.tree.Literal.TheVariants as l
 use Rattle.hq_expr.specs.declared.tree.SqlExpr.{SqlExpr}
 use Rattle.hq_expr.specs.declared.tree.SqlExpr.TheVariants as e

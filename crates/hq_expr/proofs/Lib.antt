@@ -6,3 +6,8 @@ pub mod Examples
 pub mod ListLemmas
 pub mod Texts
 pub mod Reserved
+pub mod Letters
+pub mod Reversed
+pub mod AtNodes
+pub mod Shapes
+pub mod Quotes

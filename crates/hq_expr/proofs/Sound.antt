@@ -18,7 +18,7 @@ use Rattle.hq_expr.specs.declared.mark.Mark.{Mark}
 use Rattle.hq_expr.specs.declared.mark.Mark.TheVariants as m
 use Rattle.hq_expr.specs.declared.tree.AggregateKind.{AggregateKind}
 use Rattle.hq_expr.specs.declared.tree.AggregateKind.TheVariants as aggregate_kind
-use Rattle.hq_expr.specs.declared.tree.ArithKind.TheVariants.{Minus}
+use Rattle.hq_value.specs.declared.operator.ArithKind.TheVariants.{Minus}
 use Rattle.hq_expr.specs.declared.tree.Literal.{Literal}
 use Rattle.hq_expr.specs.declared.tree.Literal.TheVariants as lit
 use Rattle.hq_expr.specs.declared.tree.ColumnRef.{ColumnRef}

@@ -10,7 +10,7 @@ use Rattle.hq_expr.specs.declared.cursor.Peek.TheVariants as p
 use Rattle.hq_expr.specs.declared.cursor.Start.{Start}
 use Rattle.hq_expr.specs.declared.cursor.Start.TheVariants as start
 use Rattle.hq_expr.specs.declared.mark.Mark.TheVariants as m
-use Rattle.hq_expr.specs.declared.tree.ArithKind.{ArithKind}
+use Rattle.hq_value.specs.declared.operator.ArithKind.{ArithKind}
 use Rattle.hq_expr.specs.declared.tree.SqlExpr.{SqlExpr}
 use Rattle.hq_expr.specs.declared.tree.SqlExpr.TheVariants as e
 

@@ -7,9 +7,9 @@ use Rattle.hq_expr.specs.declared.lexeme.Lexeme.{Lexeme}
 use Rattle.hq_expr.specs.declared.lexeme.Lexeme.TheVariants.{Mark, Name, Digits, Text}
 use Rattle.hq_expr.specs.declared.mark.Mark.TheVariants as m
 use Rattle.hq_expr.specs.declared.mark.Mark.{Mark as MarkType}
-use Rattle.hq_expr.specs.declared.tree.CompareKind.{CompareKind}
+use Rattle.hq_value.specs.declared.operator.CompareKind.{CompareKind}
 use Rattle.hq_expr.specs.declared.tree.AggregateKind.{AggregateKind}
-use Rattle.hq_expr.specs.declared.tree.ArithKind.TheVariants.{Minus}
+use Rattle.hq_value.specs.declared.operator.ArithKind.TheVariants.{Minus}
 use Rattle.hq_expr.specs.declared.tree.Literal.{Literal}
 use Rattle.hq_expr.specs.declared.tree.Literal.TheVariants as l
 use Rattle.hq_expr.specs.declared.tree.ColumnRef.{ColumnRef}

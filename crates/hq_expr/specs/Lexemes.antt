@@ -1,7 +1,7 @@
 -- Tokens, as the grammar reads them.
 --     lexeme_of text t     what the token t of the text is for the grammar
 --     IsLexed text ls      the text is cut into tokens that are these for the grammar
-use Rattle.std.specs.Prelude.{◌≡◌, ℕ, ◌+◌, ◌-◌, ◌*◌, ◌^◌, ◌==◌, ◌≤◌, Bool, true, false, if◌then◌else◌, nat_le, min, List, [], ◌∷◌, length, map, fold, take, drop, codes, Option, Some, None}
+use Rattle.std.specs.Prelude.{◌≡◌, ℕ, ◌+◌, ◌-◌, ◌*◌, ◌^◌, ◌==◌, ◌≤◌, Bool, true, false, if◌then◌else◌, ◌&&◌, nat_le, min, List, [], ◌∷◌, length, map, fold, take, drop, slice_index, codes, Option, Some, None}
 use denote.Enum.Bare.{sameb}
 use Rattle.std.specs.Char.{to_ascii_lowercase}
 use Rattle.std.specs.Str.{bytes_eq}
@@ -20,15 +20,18 @@ use Rattle.hq_expr.specs.declared.lexeme.Lexeme.TheVariants.{Mark, Name, Digits,
 -- the words that are no names
 abbrev pub reserved_words : List (List ℕ × MarkType)
 reserved_words =
-    (codes "and", m.And) ∷ (codes "as", m.As) ∷ (codes "asc", m.Asc) ∷ (codes "begin", m.Begin) ∷ (codes "bigint", m.Bigint)
-    ∷ (codes "bool", m.Bool) ∷ (codes "boolean", m.Boolean) ∷ (codes "by", m.By) ∷ (codes "commit", m.Commit) ∷ (codes "count", m.Count)
-    ∷ (codes "create", m.Create) ∷ (codes "desc", m.Desc) ∷ (codes "distinct", m.Distinct) ∷ (codes "distributed", m.Distributed)
-    ∷ (codes "false", m.False) ∷ (codes "from", m.From) ∷ (codes "group", m.Group) ∷ (codes "having", m.Having) ∷ (codes "inner", m.Inner)
-    ∷ (codes "insert", m.Insert) ∷ (codes "int", m.Int) ∷ (codes "integer", m.Integer) ∷ (codes "into", m.Into) ∷ (codes "is", m.Is)
-    ∷ (codes "join", m.Join) ∷ (codes "limit", m.Limit) ∷ (codes "max", m.Max) ∷ (codes "min", m.Min) ∷ (codes "not", m.Not)
-    ∷ (codes "null", m.Null) ∷ (codes "on", m.On) ∷ (codes "or", m.Or) ∷ (codes "order", m.Order) ∷ (codes "randomly", m.Randomly)
-    ∷ (codes "rollback", m.Rollback) ∷ (codes "select", m.Select) ∷ (codes "snapshot", m.Snapshot) ∷ (codes "sum", m.Sum)
-    ∷ (codes "table", m.Table) ∷ (codes "text", m.Text) ∷ (codes "true", m.True) ∷ (codes "values", m.Values) ∷ (codes "where", m.Where) ∷ []
+    (codes "add", m.Add) ∷ (codes "alter", m.Alter) ∷ (codes "and", m.And) ∷ (codes "as", m.As) ∷
+    (codes "asc", m.Asc) ∷ (codes "begin", m.Begin) ∷ (codes "bigint", m.Bigint) ∷ (codes "bool", m.Bool) ∷
+    (codes "boolean", m.Boolean) ∷ (codes "by", m.By) ∷ (codes "column", m.Column) ∷ (codes "commit", m.Commit) ∷
+    (codes "count", m.Count) ∷ (codes "create", m.Create) ∷ (codes "desc", m.Desc) ∷ (codes "distinct", m.Distinct) ∷
+    (codes "distributed", m.Distributed) ∷ (codes "false", m.False) ∷ (codes "from", m.From) ∷
+    (codes "group", m.Group) ∷ (codes "having", m.Having) ∷ (codes "inner", m.Inner) ∷ (codes "insert", m.Insert) ∷
+    (codes "int", m.Int) ∷ (codes "integer", m.Integer) ∷ (codes "into", m.Into) ∷ (codes "is", m.Is) ∷
+    (codes "join", m.Join) ∷ (codes "limit", m.Limit) ∷ (codes "max", m.Max) ∷ (codes "min", m.Min) ∷
+    (codes "not", m.Not) ∷ (codes "null", m.Null) ∷ (codes "on", m.On) ∷ (codes "or", m.Or) ∷
+    (codes "order", m.Order) ∷ (codes "randomly", m.Randomly) ∷ (codes "rollback", m.Rollback) ∷
+    (codes "select", m.Select) ∷ (codes "snapshot", m.Snapshot) ∷ (codes "sum", m.Sum) ∷ (codes "table", m.Table) ∷
+    (codes "text", m.Text) ∷ (codes "true", m.True) ∷ (codes "values", m.Values) ∷ (codes "where", m.Where) ∷ []
 
 abbrev pub look_up : List ℕ → List (List ℕ × MarkType) → Option MarkType
 look_up word [] = None
@@ -57,8 +60,18 @@ digits_value digits = fold (λ n digit. 10 * n + (digit - 48)) 0 digits
 -- of two quotes in a row the second is left out
 abbrev pub without_doubles : Bool → List ℕ → List ℕ
 without_doubles is_second [] = []
-without_doubles true (b ∷ z) = without_doubles false z
-without_doubles false (b ∷ z) = b ∷ without_doubles (b == 39) z
+without_doubles is_second (b ∷ z) = if is_second && b == 39 then without_doubles false z else b ∷ without_doubles (b == 39) z
+
+abbrev pub is_quote : ℕ → Bool
+is_quote b = b == 39
+
+-- the text up to its first quote, which stands at this place
+abbrev pub up_to_quote : List ℕ → ℕ → List ℕ
+up_to_quote z place = take (place + 1) z
+
+-- the text behind its first quote, and behind a second one that follows at once
+abbrev pub behind_quote : List ℕ → ℕ → List ℕ
+behind_quote z place = if is_quote (slice_index z (place + 1)) then drop (place + 2) z else drop (place + 1) z
 
 -- what stands between the quotes of a text
 abbrev pub between_quotes : List ℕ → List ℕ

@@ -8,3 +8,5 @@ pub mod Parts
 pub mod Lists
 pub mod Uses
 pub mod Lexemes
+pub mod Shape
+pub mod Held

@@ -11,11 +11,11 @@ use Rattle.hq_expr.specs.declared.lexeme.Lexeme.{Lexeme}
 use Rattle.hq_expr.specs.declared.lexeme.Lexeme.TheVariants as lexeme
 use Rattle.hq_expr.specs.declared.mark.Mark.{Mark}
 use Rattle.hq_expr.specs.declared.mark.Mark.TheVariants as m
-use Rattle.hq_expr.specs.declared.tree.CompareKind.{CompareKind}
+use Rattle.hq_value.specs.declared.operator.CompareKind.{CompareKind}
 use Rattle.hq_expr.specs.declared.tree.AggregateKind.{AggregateKind}
 use Rattle.hq_expr.specs.declared.tree.AggregateKind.TheVariants as aggregate_kind
-use Rattle.hq_expr.specs.declared.tree.ArithKind.{ArithKind}
-use Rattle.hq_expr.specs.declared.tree.ArithKind.TheVariants.{Minus}
+use Rattle.hq_value.specs.declared.operator.ArithKind.{ArithKind}
+use Rattle.hq_value.specs.declared.operator.ArithKind.TheVariants.{Minus}
 use Rattle.hq_expr.specs.declared.tree.Literal.{Literal}
 use Rattle.hq_expr.specs.declared.tree.Literal.TheVariants as l
 use Rattle.hq_expr.specs.declared.tree.ColumnRef.{ColumnRef}

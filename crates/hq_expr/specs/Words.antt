@@ -2,10 +2,10 @@
 use Rattle.std.specs.Prelude.{Bool, Option, Some, None}
 use Rattle.hq_expr.specs.declared.mark.Mark.{Mark}
 use Rattle.hq_expr.specs.declared.mark.Mark.TheVariants as m
-use Rattle.hq_expr.specs.declared.tree.ArithKind.{ArithKind}
-use Rattle.hq_expr.specs.declared.tree.ArithKind.TheVariants as arith_kind
-use Rattle.hq_expr.specs.declared.tree.CompareKind.{CompareKind}
-use Rattle.hq_expr.specs.declared.tree.CompareKind.TheVariants as compare_kind
+use Rattle.hq_value.specs.declared.operator.ArithKind.{ArithKind}
+use Rattle.hq_value.specs.declared.operator.ArithKind.TheVariants as arith_kind
+use Rattle.hq_value.specs.declared.operator.CompareKind.{CompareKind}
+use Rattle.hq_value.specs.declared.operator.CompareKind.TheVariants as compare_kind
 use Rattle.hq_expr.specs.declared.tree.AggregateKind.{AggregateKind}
 use Rattle.hq_expr.specs.declared.tree.AggregateKind.TheVariants as aggregate_kind
 use Rattle.hq_expr.specs.declared.tree.SqlExpr.{SqlExpr}

@@ -13,7 +13,7 @@ use crate::tree::SqlExpr;
 use std::alloc::Global;
 
 #[tactic(auto, unfolding(crate::specs::Reader::expect))]
-fn null_test(alloc: Global, cursor: &mut Cursor<'_>, left: SqlExpr) -> Result<SqlExpr, ParseFault>
+fn null_test(alloc: Global, cursor: &mut Cursor, left: SqlExpr) -> Result<SqlExpr, ParseFault>
     ensures { Reads (spec.null_by left (peek cursor.old.rest) cursor.old) result cursor.new }
 {
     match cursor.peek() {
@@ -33,7 +33,7 @@ fn null_test(alloc: Global, cursor: &mut Cursor<'_>, left: SqlExpr) -> Result<Sq
 
 fn compared(
     alloc: Global,
-    cursor: &mut Cursor<'_>,
+    cursor: &mut Cursor,
     depth: u16,
     aggs: bool,
     left: SqlExpr,
@@ -50,12 +50,7 @@ fn compared(
 }
 
 #[tactic(auto, unfolding(crate::specs::Reading::test_at))]
-fn test(
-    alloc: Global,
-    cursor: &mut Cursor<'_>,
-    depth: u16,
-    aggs: bool,
-) -> Result<SqlExpr, ParseFault>
+fn test(alloc: Global, cursor: &mut Cursor, depth: u16, aggs: bool) -> Result<SqlExpr, ParseFault>
     ensures { Reads (spec.test_at (spec.operand aggs (spec.sum (spec.factor depth false))) cursor.old) result cursor.new }
 {
     let left = operand(alloc, cursor, depth, aggs)?;
@@ -71,12 +66,7 @@ fn test(
 /// `depth` bounds how many negations and parentheses stand in one another.
 #[cycle(conds)]
 #[tactic(auto, unfolding(crate::specs::Reading::neg))]
-fn neg(
-    alloc: Global,
-    cursor: &mut Cursor<'_>,
-    depth: u16,
-    aggs: bool,
-) -> Result<SqlExpr, ParseFault>
+fn neg(alloc: Global, cursor: &mut Cursor, depth: u16, aggs: bool) -> Result<SqlExpr, ParseFault>
     ensures { Reads (spec.neg depth aggs cursor.old) result cursor.new }
 {
     if depth == 0 {
@@ -102,12 +92,7 @@ fn neg(
 
 #[cycle(conds)]
 #[tactic(auto, unfolding(crate::specs::Reading::many, crate::specs::Reading::chain))]
-fn both(
-    alloc: Global,
-    cursor: &mut Cursor<'_>,
-    depth: u16,
-    aggs: bool,
-) -> Result<SqlExpr, ParseFault>
+fn both(alloc: Global, cursor: &mut Cursor, depth: u16, aggs: bool) -> Result<SqlExpr, ParseFault>
     ensures { Reads (spec.both (spec.neg depth aggs) cursor.old) result cursor.new }
 {
     let mut left = neg(alloc, cursor, depth, aggs)?;
@@ -127,7 +112,7 @@ fn both(
 #[tactic(auto, unfolding(crate::specs::Reading::many, crate::specs::Reading::chain))]
 pub fn cond(
     alloc: Global,
-    cursor: &mut Cursor<'_>,
+    cursor: &mut Cursor,
     depth: u16,
     aggs: bool,
 ) -> Result<SqlExpr, ParseFault>

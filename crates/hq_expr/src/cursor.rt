@@ -8,7 +8,6 @@ use crate::lexeme::Lexeme;
 use crate::long_text::LongText;
 use crate::mark::Mark;
 use hq_value::Name;
-use std::alloc::Global;
 use std::marker::Model;
 
 /// What the next lexeme is.
@@ -60,28 +59,30 @@ const LIMIT: u16 = 256;
 
 /// The lexemes that are left, and how many operators the expression may still have.
 #[derive(Drop)]
-pub struct Cursor<'a> {
-    rest: &'a [Lexeme],
+pub struct Cursor {
+    // The next one is the last, so that it can be taken out.
+    rest: Vec<Lexeme>,
     left: u16,
 }
 
-impl<'a> Model for Cursor<'a> {
+impl Model for Cursor {
+    ghost use Rattle.std.specs.Prelude.{reverse};
     ghost use Rattle.hq_expr.specs.State.{State};
 
     ghost Value = { State };
 
-    ghost view = { λ c. record { left = c.left; rest = c.rest.now } };
+    ghost view = { λ c. record { left = c.left; rest = reverse c.rest.items } };
 }
 
-impl<'a> Cursor<'a> {
+impl Cursor {
     /// At the first lexeme.
-    pub fn new(lexemes: &'a [Lexeme]) -> Cursor<'a>
-        ensures { result ≡ record { left = 256; rest = lexemes.now } }
+    #[tactic(auto, using(crate::proofs::Reversed::reverse_twice))]
+    pub fn new(lexemes: Vec<Lexeme>) -> Cursor
+        ensures { result ≡ record { left = 256; rest = lexemes.items } }
     {
-        Cursor {
-            rest: lexemes,
-            left: LIMIT,
-        }
+        let mut rest = lexemes;
+        rest.reverse();
+        Cursor { rest, left: LIMIT }
     }
 
     /// Begins an expression, with a new limit.
@@ -116,9 +117,9 @@ impl<'a> Cursor<'a> {
     pub fn peek(&self) -> Peek
         ensures { result ≡ spec.peek self.now.rest }
     {
-        match self.rest.first() {
+        match self.rest.last() {
             None => Peek::End,
-            Some(first) => kind_of(first),
+            Some(next) => kind_of(next),
         }
     }
 
@@ -126,9 +127,7 @@ impl<'a> Cursor<'a> {
     pub fn skip(&mut self)
         ensures { self.new ≡ spec.skipped self.old }
     {
-        if !self.rest.is_empty() {
-            self.rest = &self.rest[1..];
-        }
+        let _ = self.rest.pop();
     }
 
     /// One operator more.
@@ -165,46 +164,35 @@ impl<'a> Cursor<'a> {
         }
     }
 
-    /// Passes digits. Syntax exactly where none come next.
+    /// Takes digits. Syntax exactly where none come next.
     #[tactic(auto, unfolding(crate::specs::Reader::digits))]
     pub fn digits(&mut self) -> Result<u64, ParseFault>
         ensures { Reads (spec.digits self.old) result self.new }
     {
-        match self.rest.first() {
-            Some(Lexeme::Digits(n)) => {
-                self.rest = &self.rest[1..];
-                Ok(*n)
-            }
+        match self.rest.pop() {
+            Some(Lexeme::Digits(n)) => Ok(n),
             _ => Err(ParseFault::Syntax),
         }
     }
 
-    /// Passes a name. Syntax exactly where none comes next.
+    /// Takes a name. Syntax exactly where none comes next.
     #[tactic(auto, unfolding(crate::specs::Reader::name))]
-    pub fn name(&mut self, alloc: Global) -> Result<Name, ParseFault>
+    pub fn name(&mut self) -> Result<Name, ParseFault>
         ensures { Reads (spec.name self.old) result self.new }
     {
-        match self.rest.first() {
-            Some(Lexeme::Name(name)) => {
-                let name = name.copy(alloc)?;
-                self.rest = &self.rest[1..];
-                Ok(name)
-            }
+        match self.rest.pop() {
+            Some(Lexeme::Name(name)) => Ok(name),
             _ => Err(ParseFault::Syntax),
         }
     }
 
-    /// Passes a text. Syntax exactly where none comes next.
+    /// Takes a text. Syntax exactly where none comes next.
     #[tactic(auto, unfolding(crate::specs::Reader::text))]
-    pub fn text(&mut self, alloc: Global) -> Result<LongText, ParseFault>
+    pub fn text(&mut self) -> Result<LongText, ParseFault>
         ensures { Reads (spec.text self.old) result self.new }
     {
-        match self.rest.first() {
-            Some(Lexeme::Text(text)) => {
-                let text = text.copy(alloc)?;
-                self.rest = &self.rest[1..];
-                Ok(text)
-            }
+        match self.rest.pop() {
+            Some(Lexeme::Text(text)) => Ok(text),
             _ => Err(ParseFault::Syntax),
         }
     }

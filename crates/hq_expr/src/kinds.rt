@@ -4,7 +4,8 @@ ghost use Rattle.hq_expr.specs.Reading as spec;
 
 use crate::cursor::Peek;
 use crate::mark::Mark;
-use crate::tree::{AggregateKind, ArithKind, CompareKind};
+use crate::tree::AggregateKind;
+use hq_value::{ArithKind, CompareKind};
 
 pub fn aggregates_at(peek: Peek) -> Option<AggregateKind>
     ensures { result ≡ spec.aggregates_at peek }

@@ -6,11 +6,10 @@ use crate::cursor::{Cursor, Peek};
 use crate::fault::ParseFault;
 use crate::mark::Mark;
 use crate::tree::{ColumnRef, Literal};
-use std::alloc::Global;
 
 const LIMIT: u64 = 0x8000_0000_0000_0000;
 
-fn positive(n: u64, cursor: &mut Cursor<'_>) -> Result<Literal, ParseFault>
+fn positive(n: u64, cursor: &mut Cursor) -> Result<Literal, ParseFault>
     ensures { Reads (spec.number n cursor.old) result cursor.new }
 {
     if n < LIMIT {
@@ -20,7 +19,7 @@ fn positive(n: u64, cursor: &mut Cursor<'_>) -> Result<Literal, ParseFault>
     }
 }
 
-fn negative(n: u64, cursor: &mut Cursor<'_>) -> Result<Literal, ParseFault>
+fn negative(n: u64, cursor: &mut Cursor) -> Result<Literal, ParseFault>
     ensures { Reads (spec.negative n cursor.old) result cursor.new }
 {
     if n < LIMIT {
@@ -33,7 +32,7 @@ fn negative(n: u64, cursor: &mut Cursor<'_>) -> Result<Literal, ParseFault>
 }
 
 #[tactic(auto, unfolding(crate::specs::Reading::negated))]
-pub fn negated(cursor: &mut Cursor<'_>) -> Result<Literal, ParseFault>
+pub fn negated(cursor: &mut Cursor) -> Result<Literal, ParseFault>
     ensures { Reads (spec.negated cursor.old) result cursor.new }
 {
     let n = cursor.digits()?;
@@ -41,7 +40,7 @@ pub fn negated(cursor: &mut Cursor<'_>) -> Result<Literal, ParseFault>
 }
 
 #[tactic(auto, unfolding(crate::specs::Reading::literal))]
-pub fn literal(alloc: Global, cursor: &mut Cursor<'_>) -> Result<Literal, ParseFault>
+pub fn literal(cursor: &mut Cursor) -> Result<Literal, ParseFault>
     ensures { Reads (spec.literal cursor.old) result cursor.new }
 {
     match cursor.peek() {
@@ -49,7 +48,7 @@ pub fn literal(alloc: Global, cursor: &mut Cursor<'_>) -> Result<Literal, ParseF
             let n = cursor.digits()?;
             positive(n, cursor)
         }
-        Peek::Text => Ok(Literal::Text(cursor.text(alloc)?)),
+        Peek::Text => Ok(Literal::Text(cursor.text()?)),
         Peek::Mark(Mark::Null) => {
             cursor.skip();
             Ok(Literal::Null)
@@ -72,16 +71,16 @@ pub fn literal(alloc: Global, cursor: &mut Cursor<'_>) -> Result<Literal, ParseF
 }
 
 #[tactic(auto, unfolding(crate::specs::Reading::reference))]
-pub fn reference(alloc: Global, cursor: &mut Cursor<'_>) -> Result<ColumnRef, ParseFault>
+pub fn reference(cursor: &mut Cursor) -> Result<ColumnRef, ParseFault>
     ensures { Reads (spec.reference cursor.old) result cursor.new }
 {
-    let first = cursor.name(alloc)?;
+    let first = cursor.name()?;
     match cursor.peek() {
         Peek::Mark(Mark::Dot) => {
             cursor.skip();
             Ok(ColumnRef {
                 source: Some(first),
-                column: cursor.name(alloc)?,
+                column: cursor.name()?,
             })
         }
         _ => Ok(ColumnRef {

@@ -24,6 +24,7 @@ mod word;
 
 pub use cursor::{Cursor, Peek};
 pub use fault::ParseFault;
+pub use hq_value::{ArithKind, CompareKind};
 pub use laws::{conditions_are_exact, items_are_exact, values_are_exact};
 pub use leaves::reference;
 pub use lexeme::Lexeme;
@@ -31,9 +32,6 @@ pub use lexing::lexemes;
 pub use long_text::LongText;
 pub use mark::Mark;
 pub use marks::are_marks;
-pub use tree::{AggregateKind, ArithKind, ColumnRef, CompareKind, Literal, SqlExpr};
+pub use tree::{AggregateKind, ColumnRef, Literal, SqlExpr};
 pub use uses::{Uses, uses_of};
 pub use whole::{condition, item_sum, value};
-
-#[cfg(test)]
-mod tests;

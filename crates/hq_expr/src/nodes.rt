@@ -1,7 +1,8 @@
 //! The nodes of a tree.
 ghost use Rattle.std.specs.Prelude.{◌≡◌, IfOk};
 
-use crate::tree::{AggregateKind, ArithKind, CompareKind, SqlExpr};
+use crate::tree::{AggregateKind, SqlExpr};
+use hq_value::{ArithKind, CompareKind};
 use sqlite_items::Boxed;
 use std::alloc::{AllocError, Global};
 

@@ -9,14 +9,15 @@ use crate::kinds::{adds_at, aggregates_at, multiplies_at};
 use crate::leaves::{literal, negated, reference};
 use crate::mark::Mark;
 use crate::nodes::{aggregate_of, arith};
-use crate::tree::{AggregateKind, ArithKind, Literal, SqlExpr};
+use crate::tree::{AggregateKind, Literal, SqlExpr};
+use hq_value::ArithKind;
 use std::alloc::Global;
 
 #[cycle(sums)]
 #[tactic(auto, unfolding(crate::specs::Reading::aggregate))]
 fn aggregate(
     alloc: Global,
-    cursor: &mut Cursor<'_>,
+    cursor: &mut Cursor,
     depth: u16,
     kind: AggregateKind,
 ) -> Result<SqlExpr, ParseFault>
@@ -42,12 +43,12 @@ fn aggregate(
     }
 }
 
-fn plain(alloc: Global, cursor: &mut Cursor<'_>) -> Result<SqlExpr, ParseFault>
+fn plain(cursor: &mut Cursor) -> Result<SqlExpr, ParseFault>
     ensures { Reads (spec.plain (peek cursor.old.rest) cursor.old) result cursor.new }
 {
     match cursor.peek() {
-        Peek::Name => Ok(SqlExpr::Column(reference(alloc, cursor)?)),
-        _ => Ok(SqlExpr::Literal(literal(alloc, cursor)?)),
+        Peek::Name => Ok(SqlExpr::Column(reference(cursor)?)),
+        _ => Ok(SqlExpr::Literal(literal(cursor)?)),
     }
 }
 
@@ -55,14 +56,14 @@ fn plain(alloc: Global, cursor: &mut Cursor<'_>) -> Result<SqlExpr, ParseFault>
 #[tactic(auto, unfolding(crate::specs::Reading::operand))]
 pub fn operand(
     alloc: Global,
-    cursor: &mut Cursor<'_>,
+    cursor: &mut Cursor,
     depth: u16,
     aggs: bool,
 ) -> Result<SqlExpr, ParseFault>
     ensures { Reads (spec.operand aggs (spec.sum (spec.factor depth false)) cursor.old) result cursor.new }
 {
     match aggregates_at(cursor.peek()) {
-        None => plain(alloc, cursor),
+        None => plain(cursor),
         Some(kind) => {
             if aggs {
                 aggregate(alloc, cursor, depth, kind)
@@ -76,12 +77,7 @@ pub fn operand(
 /// `depth` bounds how many factors stand in one another.
 #[cycle(sums)]
 #[tactic(auto, unfolding(crate::specs::Reading::factor))]
-fn factor(
-    alloc: Global,
-    cursor: &mut Cursor<'_>,
-    depth: u16,
-    aggs: bool,
-) -> Result<SqlExpr, ParseFault>
+fn factor(alloc: Global, cursor: &mut Cursor, depth: u16, aggs: bool) -> Result<SqlExpr, ParseFault>
     ensures { Reads (spec.factor depth aggs cursor.old) result cursor.new }
 {
     if depth == 0 {
@@ -113,12 +109,7 @@ fn factor(
 
 #[cycle(sums)]
 #[tactic(auto, unfolding(crate::specs::Reading::many, crate::specs::Reading::chain))]
-fn term(
-    alloc: Global,
-    cursor: &mut Cursor<'_>,
-    depth: u16,
-    aggs: bool,
-) -> Result<SqlExpr, ParseFault>
+fn term(alloc: Global, cursor: &mut Cursor, depth: u16, aggs: bool) -> Result<SqlExpr, ParseFault>
     ensures { Reads (spec.term (spec.factor depth aggs) cursor.old) result cursor.new }
 {
     let mut left = factor(alloc, cursor, depth, aggs)?;
@@ -138,7 +129,7 @@ fn term(
 #[tactic(auto, unfolding(crate::specs::Reading::many, crate::specs::Reading::chain))]
 pub fn sum(
     alloc: Global,
-    cursor: &mut Cursor<'_>,
+    cursor: &mut Cursor,
     depth: u16,
     aggs: bool,
 ) -> Result<SqlExpr, ParseFault>

@@ -1,7 +1,7 @@
 //! Expressions as trees. Parentheses are gone.
 
 use crate::long_text::LongText;
-use hq_value::Name;
+use hq_value::{ArithKind, CompareKind, Name};
 use sqlite_items::Boxed;
 
 /// A column, also with the source that it is of.
@@ -18,25 +18,6 @@ pub enum Literal {
     Bool(bool),
     Int(i64),
     Text(LongText),
-}
-
-/// A step of arithmetic.
-#[derive(Clone, Copy, Debug, PartialEq, Eq)]
-pub enum ArithKind {
-    Plus,
-    Minus,
-    Times,
-}
-
-/// A comparison.
-#[derive(Clone, Copy, Debug, PartialEq, Eq)]
-pub enum CompareKind {
-    Equal,
-    NotEqual,
-    Less,
-    AtMost,
-    Greater,
-    AtLeast,
 }
 
 /// An aggregate over an expression.

@@ -54,6 +54,7 @@ fn none() -> Uses
     }
 }
 
+#[tactic(auto, unfolding(crate::specs::Uses::either))]
 fn either(a: Uses, b: Uses) -> Uses
     ensures { result ≡ spec.either a b }
 {
@@ -63,8 +64,9 @@ fn either(a: Uses, b: Uses) -> Uses
     }
 }
 
+#[tactic(auto, unfolding(crate::specs::Uses::aggregated))]
 fn aggregated(kind: AggregateKind, of: Uses) -> Uses
-    ensures { result ≡ record { column = of.column; count = spec.counts kind of } }
+    ensures { result ≡ spec.aggregated kind of }
 {
     let count = match kind {
         AggregateKind::Count => true,

@@ -16,7 +16,7 @@ const DEPTH: u16 = 257;
 
 /// The sum of an item.
 #[tactic(auto, unfolding(crate::specs::Parts::item_sum))]
-pub fn item_sum(alloc: Global, cursor: &mut Cursor<'_>) -> Result<SqlExpr, ParseFault>
+pub fn item_sum(alloc: Global, cursor: &mut Cursor) -> Result<SqlExpr, ParseFault>
     ensures { Reads (spec.item_sum cursor.old) result cursor.new }
 {
     cursor.renew();
@@ -25,7 +25,7 @@ pub fn item_sum(alloc: Global, cursor: &mut Cursor<'_>) -> Result<SqlExpr, Parse
 
 /// A condition, in which aggregates may stand where `aggs` is true.
 #[tactic(auto, unfolding(crate::specs::Parts::condition))]
-pub fn condition(alloc: Global, cursor: &mut Cursor<'_>, aggs: bool) -> Result<SqlExpr, ParseFault>
+pub fn condition(alloc: Global, cursor: &mut Cursor, aggs: bool) -> Result<SqlExpr, ParseFault>
     ensures { Reads (spec.condition aggs cursor.old) result cursor.new }
 {
     cursor.renew();
@@ -34,9 +34,9 @@ pub fn condition(alloc: Global, cursor: &mut Cursor<'_>, aggs: bool) -> Result<S
 
 /// A literal.
 #[tactic(auto, unfolding(crate::specs::Parts::value))]
-pub fn value(alloc: Global, cursor: &mut Cursor<'_>) -> Result<Literal, ParseFault>
+pub fn value(cursor: &mut Cursor) -> Result<Literal, ParseFault>
     ensures { Reads (spec.value cursor.old) result cursor.new }
 {
     cursor.renew();
-    literal(alloc, cursor)
+    literal(cursor)
 }

@@ -2,7 +2,7 @@
 use Rattle.std.proofs.Common.{◌≡◌, ℕ, suc, ◌+◌, ◌<◌, List, [], ◌∷◌, ◌++◌, length, get_or, drop, Option, Some, None, refl, ap, sym, ◌∙◌, append_assoc, add-one}
 use Rattle.std.proofs.lemmas.List.{append-nil}
 use Rattle.std.proofs.Math.Seq.{drop-cons, drop-length}
-use Rattle.hq_forms.specs.Texts.{in_front}
+use Rattle.hq_sql.specs.Texts.{in_front}
 use Rattle.hq_forms.specs.Forms.{◌>>=◌, every}
 
 -- the found ones stand in front of the others

@@ -5,11 +5,11 @@ use Rattle.hq_expr.specs.declared.fault.ParseFault.{ParseFault}
 use Rattle.hq_expr.specs.declared.fault.ParseFault.TheVariants.{Syntax, NoMemory}
 use Rattle.hq_sql.specs.Statements.{Parses}
 use Rattle.hq_sql.specs.declared.tree.Statement.{Statement}
-use Rattle.hq_forms.specs.Texts.{statement_in}
+use Rattle.hq_sql.specs.Texts.{statement_in}
 use Rattle.hq_forms.specs.Forms.{◌>>=◌, form_of, form_in}
 use Rattle.hq_forms.specs.Gives.{Gives}
 use Rattle.hq_forms.specs.declared.form.Form.{Form}
-use Rattle.hq_forms.proofs.Texts.{parses-from, parses-to, no_statement}
+use Rattle.hq_sql.proofs.Texts.{parses-from, parses-to, no_statement}
 
 form_is : (text : List ℕ) (s : Statement) → Parses text s → form_in text ≡ form_of s
 form_is text s h = ap (λ o. o >>= form_of) (parses-to text s h)

@@ -4,7 +4,7 @@ use Rattle.std.specs.List.{list_any, list_all}
 use Rattle.std.proofs.lemmas.Bool.{eqb-true, eq-eqb}
 use Rattle.std.proofs.lemmas.List.Folds.{list_any-append, list_all-append}
 use Rattle.hq_value.specs.Tables.{are_distinct, all_below}
-use Rattle.hq_forms.specs.Texts.{in_front}
+use Rattle.hq_sql.specs.Texts.{in_front}
 use Rattle.hq_forms.specs.Forms.{◌>>=◌, every, if_distinct}
 use Rattle.hq_forms.proofs.Every.{with_front, drop_next}
 

@@ -8,8 +8,8 @@
 -- A text in a row has at most 1,000 bytes.
 use Rattle.std.specs.Prelude.{◌<◌, ◌≤◌, ℕ, ◌+◌, Bool, true, false, not, ◌&&◌, nat_le, nat_lt, nat_eq, List, [], ◌∷◌, length, map, Option, Some, None, IsTrue, if◌then◌else◌}
 use Rattle.std.specs.List.{list_any}
-use Rattle.std.specs.Str.{bytes_eq, is_utf8}
-use Rattle.hq_value.specs.Tables.{are_distinct, same_names, all_below}
+use Rattle.std.specs.Str.{bytes_eq}
+use Rattle.hq_value.specs.Tables.{IsDefinition, are_distinct, same_names}
 use Rattle.hq_value.specs.declared.value.Value.{Value}
 use Rattle.hq_value.specs.declared.value.Value.TheVariants as value
 use Rattle.hq_value.specs.declared.table.Column.{Column}
@@ -23,7 +23,7 @@ use Rattle.hq_sql.specs.declared.tree.InsertInput.{InsertInput}
 use Rattle.hq_sql.specs.declared.tree.InsertInput.TheVariants as input
 use Rattle.hq_sql.specs.declared.tree.SelectStatement.{SelectStatement}
 use Rattle.hq_sql.specs.declared.tree.SourceName.{SourceName}
-use Rattle.hq_forms.specs.Texts.{in_front, statement_in}
+use Rattle.hq_sql.specs.Texts.{in_front, statement_in}
 use Rattle.hq_forms.specs.declared.form.Form.{Form}
 use Rattle.hq_forms.specs.declared.form.Form.TheVariants as form
 
@@ -70,26 +70,15 @@ keys_in columns keys = every (place_in columns) keys >>= if_distinct
 abbrev pub create_of : CreateStatement → Option Form
 create_of c = if are_columns c.columns then keys_in c.columns c.keys >>= (λ keys. Some (form.Create c.name c.columns keys)) else None
 
--- a new table has 1 to 64 columns of distinct names, and distinct keys that are places of columns
-pub record HasColumns (columns : List Column) (keys : List ℕ) : Type 0 where
-  pub some : 0 < length columns
-  pub few : length columns ≤ 64
-  pub distinct : IsTrue (are_distinct same_names (names columns))
-  pub keys_distinct : IsTrue (are_distinct nat_eq keys)
-  pub keys_within : IsTrue (all_below (length columns) keys)
-
+-- a new table keeps the rules of a definition
 abbrev pub IsGood : Form → Type 0
-IsGood (form.Create name columns keys) = HasColumns columns keys
+IsGood (form.Create name columns keys) = IsDefinition (record { name = name; columns = columns; keys = keys })
 IsGood _ = Unit {0}
 
 -- ---- INSERT
 
-abbrev pub chars_of : List ℕ → Option (List ℕ)
-chars_of t = if is_utf8 t then Some t else None
-
--- what stands in the quotes of a UTF-8 text is UTF-8 too
 abbrev pub text_of : List ℕ → Option Value
-text_of t = if nat_le (length t) 1000 then chars_of t >>= (λ chars. Some (value.Text chars)) else None
+text_of t = if nat_lt 1000 (length t) then None else Some (value.Text t)
 
 abbrev pub value_of : Literal → Option Value
 value_of literal.Null = Some value.Null

@@ -1,14 +1,13 @@
 //! INSERT as a form.
-ghost use Rattle.std.specs.Prelude.{◌≡◌, ◌≤◌, length};
+ghost use Rattle.std.specs.Prelude.{◌≡◌};
 ghost use Rattle.hq_forms.specs.Forms as spec;
 ghost use Rattle.hq_forms.specs.Forms.{every};
 ghost use Rattle.hq_forms.specs.Gives.{Gives};
 
 use crate::form::Form;
 use hq_sql::{InsertInput, InsertStatement, Literal, Literals, LongText, ParseFault};
-use hq_value::{Chars, Row, Sequence, Value};
+use hq_value::{Row, Sequence, Value};
 use std::alloc::Global;
-use std::str;
 
 /// The rows that an INSERT puts. Syntax exactly where it names columns, has a SELECT, or a text that is too long.
 pub fn insert(alloc: Global, statement: &InsertStatement) -> Result<Form, ParseFault>
@@ -47,42 +46,33 @@ fn rows(alloc: Global, tuples: &[Literals]) -> Result<Sequence<Row>, ParseFault>
 fn row(alloc: Global, literals: &[Literal]) -> Result<Row, ParseFault>
     ensures { Gives result (spec.row_of literals.now) }
 {
-    let mut values = Vec::with_capacity(alloc, literals.len())?;
+    let mut row = Row::with_capacity(alloc, literals.len())?;
     for literal in literals {
-        let value = value(alloc, literal)?;
-        values.push(value)?;
+        let value = value(literal)?;
+        row.push(value)?;
     }
-    Ok(Sequence::from_vec(values))
+    Ok(row)
 }
 
-fn value(alloc: Global, literal: &Literal) -> Result<Value, ParseFault>
+fn value(literal: &Literal) -> Result<Value, ParseFault>
     ensures { Gives result (spec.value_of literal.now) }
 {
     match literal {
         Literal::Null => Ok(Value::Null),
         Literal::Bool(b) => Ok(Value::Bool(*b)),
         Literal::Int(n) => Ok(Value::Int(*n)),
-        Literal::Text(text) => text_value(alloc, text),
+        Literal::Text(text) => text_value(text),
     }
 }
 
-fn text_value(alloc: Global, text: &LongText) -> Result<Value, ParseFault>
+fn text_value(text: &LongText) -> Result<Value, ParseFault>
     ensures { Gives result (spec.text_of text.now) }
 {
-    let bytes = text.as_bytes();
-    if bytes.len() > Chars::MOST {
+    if text.is_long() {
         return Err(ParseFault::Syntax);
     }
-    let text = chars(alloc, bytes)?;
-    Ok(Value::Text(text))
-}
-
-fn chars(alloc: Global, bytes: &[u8]) -> Result<Chars, ParseFault>
-    requires { length bytes.now ≤ 1000 }
-    ensures { Gives result (spec.chars_of bytes.now) }
-{
-    match str::from_utf8(bytes) {
-        Ok(text) => Ok(Chars::new(String::from_str(alloc, text)?)),
-        Err(_) => Err(ParseFault::Syntax),
+    match text.chars() {
+        Some(chars) => Ok(Value::Text(chars.copy()?)),
+        None => unreachable!(),
     }
 }

@@ -2,7 +2,7 @@
 ghost use Rattle.std.specs.Prelude.{◌≡◌, ◌↔◌, ℕ, List, Some};
 ghost use Rattle.hq_sql.specs.Statements.{Parses};
 ghost use Rattle.hq_sql.specs.declared.tree.Statement.{Statement as StatementType};
-ghost use Rattle.hq_forms.specs.Texts.{statement_in};
+ghost use Rattle.hq_sql.specs.Texts.{statement_in};
 ghost use Rattle.hq_forms.specs.Forms.{form_of, form_in};
 ghost use Rattle.hq_forms.specs.declared.form.Form.{Form as FormType};
 

@@ -12,6 +12,3 @@ pub use form::Form;
 pub use hq_sql::ParseFault;
 pub use laws::forms_are_statements;
 pub use reading::read_form;
-
-#[cfg(test)]
-mod tests;

@@ -9,7 +9,7 @@ use Rattle.hq_lex.specs.declared.front.Class.{Class}
 use Rattle.hq_lex.specs.declared.front.Class.TheVariants as class
 use Rattle.hq_lex.specs.declared.token.TokenKind.TheVariants as kind
 use Rattle.std.specs.declared.alloc.AllocError.{AllocError}
-use Rattle.hq_lex.specs.Front.{front, gap, gap_from, closing, past, is_in, is_blank, begins_word, one_more, with_kind, sign}
+use Rattle.hq_lex.specs.Front.{front, gap, gap_from, closing, past, is_in, is_blank, begins_word, one_more, with_kind, sign, IsQuoted}
 use Rattle.hq_lex.specs.Step.{step_at, step_behind, begun}
 use Rattle.hq_lex.specs.Cut.{IsTokens, NoTokenAt, AreSlices, IsSlice}
 use Rattle.hq_lex.specs.Cut as cut
@@ -193,7 +193,7 @@ unfolding gap
 gap_short z = omega (arith, gap_le false 0 z)
 
 -- what a step that finds a token says
-step_found : (at : ℕ) (text : List ℕ) (k : TokenKind) (start stop : ℕ) → at ≤ length text → step_at at (drop at text) ≡ step.Token k start stop
+pub step_found : (at : ℕ) (text : List ℕ) (k : TokenKind) (start stop : ℕ) → at ≤ length text → step_at at (drop at text) ≡ step.Token k start stop
     → (at ≤ start) × (start < stop) × (stop ≤ length text) × (front (drop start text) ≡ Some (k, stop - start))
 step_found at text k start stop inside h = go (gap (drop at text) == length (drop at text)) (step_opens at (drop at text) _ h)
   where
@@ -247,12 +247,6 @@ closing_quote false at (b ∷ z) end (suc m) h e =
     pick (b == 39 && not (slice_index z 0 == 39)) (Some (at + 1)) (closing (b == 39) (at + 1) z) (Some end) (slice_index z m ≡ 39)
     (λ _ f. let same : at + 1 ≡ end = cc in absurd (omega (arith, same)))
     (λ _ f. closing_quote (b == 39) (at + 1) z end m f (omega arith)) h
-
-pub record IsQuoted (z : List ℕ) (n : ℕ) : Type 0 where
-  pub long : 2 ≤ n
-  pub within : n ≤ length z
-  pub first : slice_index z 0 ≡ 39
-  pub last : slice_index z (n - 1) ≡ 39
 
 kind_is_text : {k : TokenKind} {m n : ℕ} → ◌≡◌ {A = Option (TokenKind × ℕ)} (Some (k, m)) (Some (kind.Text, n)) → k ≡ kind.Text
 kind_is_text {k = k} {m = m} {n = n} h = let q : ◌≡◌ {A = TokenKind × ℕ} (k, m) (kind.Text, n) = cc in ap (λ (p : TokenKind × ℕ). p.0) q

@@ -11,6 +11,3 @@ pub use cutting::tokens;
 pub use laws::{one_cutting, places_are_exact, tokens_are_slices};
 pub use step::{Step, next_step};
 pub use token::{LexFault, Token, TokenKind};
-
-#[cfg(test)]
-mod tests;

@@ -10,6 +10,10 @@ pub create_begins : (k : Peek) (second : Bool) → or_next (is_empty g.create) (
 unfolding g.create
 create_begins k second = refl
 
+pub alter_begins : (k : Peek) → begins g.alter k ≡ sees m.Alter k
+unfolding g.alter
+alter_begins k = refl
+
 pub insert_begins : (k : Peek) (second : Bool) → or_next (is_empty g.insert) (begins g.insert k) second ≡ sees m.Insert k
 unfolding g.insert
 insert_begins k second = refl

@@ -9,11 +9,11 @@ use Rattle.hq_expr.specs.declared.lexeme.Lexeme.{Lexeme}
 use Rattle.hq_expr.specs.declared.lexeme.Lexeme.TheVariants.{Mark, Name, Digits, Text}
 use Rattle.hq_expr.specs.declared.mark.Mark.TheVariants as m
 use Rattle.hq_expr.specs.declared.tree.AggregateKind.TheVariants.{Sum}
-use Rattle.hq_expr.specs.declared.tree.CompareKind.TheVariants.{Equal, Less}
+use Rattle.hq_value.specs.declared.operator.CompareKind.TheVariants.{Equal, Less}
 use Rattle.hq_expr.specs.declared.tree.Literal.TheVariants as l
 use Rattle.hq_expr.specs.declared.tree.SqlExpr.{SqlExpr}
 use Rattle.hq_expr.specs.declared.tree.SqlExpr.TheVariants as e
-use Rattle.hq_value.specs.declared.table.Kind.TheVariants as kind
+use Rattle.hq_value.specs.declared.kind.Kind.TheVariants as kind
 use Rattle.hq_expr.proofs.Complete.{st}
 use Rattle.hq_sql.specs.Rules.{both}
 use Rattle.hq_sql.specs.Reading.{read, repeat_from}
@@ -69,7 +69,7 @@ create_keys : statement_of (Mark m.Create ∷ Mark m.Table ∷ Name t ∷ Mark m
       columns = record { name = a; kind = kind.Int; not_null = true } ∷ record { name = b; kind = kind.Text; not_null = false } ∷ [];
       keys = b ∷ [];
     }))
-unfolding g.statement_rule g.create g.insert g.select g.transaction g.snapshot g.column g.nullity g.distribution g.names g.insert_columns g.insert_input g.tuple g.head g.middle g.tail g.distinct g.items g.item g.alias g.from g.source g.more_source g.join g.filter g.groups g.having g.keys g.key g.order g.direction g.limit list_from repeat_from parts.item_sum parts.condition parts.value expr.many expr.chain expr.factor expr.neg expr.test_at expr.operand expr.aggregate expr.literal expr.negated expr.reference r.expect r.name r.digits r.text
+unfolding g.statement_rule g.create g.alter g.addition g.new_column g.nullable g.insert g.select g.transaction g.snapshot g.column g.nullity g.distribution g.names g.insert_columns g.insert_input g.tuple g.head g.middle g.tail g.distinct g.items g.item g.alias g.from g.source g.more_source g.join g.filter g.groups g.having g.keys g.key g.order g.direction g.limit list_from repeat_from parts.item_sum parts.condition parts.value expr.many expr.chain expr.factor expr.neg expr.test_at expr.operand expr.aggregate expr.literal expr.negated expr.reference r.expect r.name r.digits r.text
 create_keys = refl
 
 -- `INSERT INTO t (a, b) VALUES (-1, 'b'), (NULL, TRUE)`
@@ -79,7 +79,7 @@ insert_columns : statement_of (Mark m.Insert ∷ Mark m.Into ∷ Name t ∷ Mark
       columns = a ∷ b ∷ [];
       input = input.Tuples ((l.Int (negsuc 0) ∷ l.Text b ∷ []) ∷ (l.Null ∷ l.Bool true ∷ []) ∷ []);
     }))
-unfolding g.statement_rule g.create g.insert g.select g.transaction g.snapshot g.column g.nullity g.distribution g.names g.insert_columns g.insert_input g.tuple g.head g.middle g.tail g.distinct g.items g.item g.alias g.from g.source g.more_source g.join g.filter g.groups g.having g.keys g.key g.order g.direction g.limit list_from repeat_from parts.item_sum parts.condition parts.value expr.many expr.chain expr.factor expr.neg expr.test_at expr.operand expr.aggregate expr.literal expr.negated expr.reference r.expect r.name r.digits r.text
+unfolding g.statement_rule g.create g.alter g.addition g.new_column g.nullable g.insert g.select g.transaction g.snapshot g.column g.nullity g.distribution g.names g.insert_columns g.insert_input g.tuple g.head g.middle g.tail g.distinct g.items g.item g.alias g.from g.source g.more_source g.join g.filter g.groups g.having g.keys g.key g.order g.direction g.limit list_from repeat_from parts.item_sum parts.condition parts.value expr.many expr.chain expr.factor expr.neg expr.test_at expr.operand expr.aggregate expr.literal expr.negated expr.reference r.expect r.name r.digits r.text
 insert_columns = refl
 
 -- `SELECT DISTINCT a, SUM(b) AS u FROM t JOIN u ON t.a = u.a WHERE b < 1 GROUP BY a HAVING SUM(b) = 2 ORDER BY a DESC, 2 LIMIT 3`
@@ -98,7 +98,7 @@ select_all_clauses : select_in (Mark m.Select ∷ Mark m.Distinct ∷ Name a ∷
       },
       st 254 [],
     )
-unfolding g.statement_rule g.create g.insert g.select g.transaction g.snapshot g.column g.nullity g.distribution g.names g.insert_columns g.insert_input g.tuple g.head g.middle g.tail g.distinct g.items g.item g.alias g.from g.source g.more_source g.join g.filter g.groups g.having g.keys g.key g.order g.direction g.limit list_from repeat_from parts.item_sum parts.condition parts.value expr.many expr.chain expr.factor expr.neg expr.test_at expr.operand expr.aggregate expr.literal expr.negated expr.reference r.expect r.name r.digits r.text
+unfolding g.statement_rule g.create g.alter g.addition g.new_column g.nullable g.insert g.select g.transaction g.snapshot g.column g.nullity g.distribution g.names g.insert_columns g.insert_input g.tuple g.head g.middle g.tail g.distinct g.items g.item g.alias g.from g.source g.more_source g.join g.filter g.groups g.having g.keys g.key g.order g.direction g.limit list_from repeat_from parts.item_sum parts.condition parts.value expr.many expr.chain expr.factor expr.neg expr.test_at expr.operand expr.aggregate expr.literal expr.negated expr.reference r.expect r.name r.digits r.text
 select_all_clauses = refl
 
 -- `SELECT COUNT(*) FROM t`
@@ -113,29 +113,45 @@ count_of_one : statement_of (Mark m.Select ∷ Mark m.Count ∷ Mark m.Open ∷ 
       keys = [];
       limit = None;
     }))
-unfolding g.statement_rule g.create g.insert g.select g.transaction g.snapshot g.column g.nullity g.distribution g.names g.insert_columns g.insert_input g.tuple g.head g.middle g.tail g.distinct g.items g.item g.alias g.from g.source g.more_source g.join g.filter g.groups g.having g.keys g.key g.order g.direction g.limit list_from repeat_from parts.item_sum parts.condition parts.value expr.many expr.chain expr.factor expr.neg expr.test_at expr.operand expr.aggregate expr.literal expr.negated expr.reference r.expect r.name r.digits r.text
+unfolding g.statement_rule g.create g.alter g.addition g.new_column g.nullable g.insert g.select g.transaction g.snapshot g.column g.nullity g.distribution g.names g.insert_columns g.insert_input g.tuple g.head g.middle g.tail g.distinct g.items g.item g.alias g.from g.source g.more_source g.join g.filter g.groups g.having g.keys g.key g.order g.direction g.limit list_from repeat_from parts.item_sum parts.condition parts.value expr.many expr.chain expr.factor expr.neg expr.test_at expr.operand expr.aggregate expr.literal expr.negated expr.reference r.expect r.name r.digits r.text
 count_of_one = refl
 
 -- `BEGIN SNAPSHOT`
 begin_snapshot : statement_of (Mark m.Begin ∷ Mark m.Snapshot ∷ [])
     ≡ Some (statement.Begin true)
-unfolding g.statement_rule g.create g.insert g.select g.transaction g.snapshot g.column g.nullity g.distribution g.names g.insert_columns g.insert_input g.tuple g.head g.middle g.tail g.distinct g.items g.item g.alias g.from g.source g.more_source g.join g.filter g.groups g.having g.keys g.key g.order g.direction g.limit list_from repeat_from parts.item_sum parts.condition parts.value expr.many expr.chain expr.factor expr.neg expr.test_at expr.operand expr.aggregate expr.literal expr.negated expr.reference r.expect r.name r.digits r.text
+unfolding g.statement_rule g.create g.alter g.addition g.new_column g.nullable g.insert g.select g.transaction g.snapshot g.column g.nullity g.distribution g.names g.insert_columns g.insert_input g.tuple g.head g.middle g.tail g.distinct g.items g.item g.alias g.from g.source g.more_source g.join g.filter g.groups g.having g.keys g.key g.order g.direction g.limit list_from repeat_from parts.item_sum parts.condition parts.value expr.many expr.chain expr.factor expr.neg expr.test_at expr.operand expr.aggregate expr.literal expr.negated expr.reference r.expect r.name r.digits r.text
 begin_snapshot = refl
 
 -- `SELECT * FROM t GROUP BY a WHERE a` is none: WHERE comes first
 where_behind_group : statement_of (Mark m.Select ∷ Mark m.Star ∷ Mark m.From ∷ Name t ∷ Mark m.Group ∷ Mark m.By ∷ Name a ∷ Mark m.Where ∷ Name a ∷ [])
     ≡ None
-unfolding g.statement_rule g.create g.insert g.select g.transaction g.snapshot g.column g.nullity g.distribution g.names g.insert_columns g.insert_input g.tuple g.head g.middle g.tail g.distinct g.items g.item g.alias g.from g.source g.more_source g.join g.filter g.groups g.having g.keys g.key g.order g.direction g.limit list_from repeat_from parts.item_sum parts.condition parts.value expr.many expr.chain expr.factor expr.neg expr.test_at expr.operand expr.aggregate expr.literal expr.negated expr.reference r.expect r.name r.digits r.text
+unfolding g.statement_rule g.create g.alter g.addition g.new_column g.nullable g.insert g.select g.transaction g.snapshot g.column g.nullity g.distribution g.names g.insert_columns g.insert_input g.tuple g.head g.middle g.tail g.distinct g.items g.item g.alias g.from g.source g.more_source g.join g.filter g.groups g.having g.keys g.key g.order g.direction g.limit list_from repeat_from parts.item_sum parts.condition parts.value expr.many expr.chain expr.factor expr.neg expr.test_at expr.operand expr.aggregate expr.literal expr.negated expr.reference r.expect r.name r.digits r.text
 where_behind_group = refl
 
 -- `SELECT * FROM t LIMIT 9223372036854775808` neither
 limit_too_high : statement_of (Mark m.Select ∷ Mark m.Star ∷ Mark m.From ∷ Name t ∷ Mark m.Limit ∷ Digits 9223372036854775808 ∷ [])
     ≡ None
-unfolding g.statement_rule g.create g.insert g.select g.transaction g.snapshot g.column g.nullity g.distribution g.names g.insert_columns g.insert_input g.tuple g.head g.middle g.tail g.distinct g.items g.item g.alias g.from g.source g.more_source g.join g.filter g.groups g.having g.keys g.key g.order g.direction g.limit list_from repeat_from parts.item_sum parts.condition parts.value expr.many expr.chain expr.factor expr.neg expr.test_at expr.operand expr.aggregate expr.literal expr.negated expr.reference r.expect r.name r.digits r.text
+unfolding g.statement_rule g.create g.alter g.addition g.new_column g.nullable g.insert g.select g.transaction g.snapshot g.column g.nullity g.distribution g.names g.insert_columns g.insert_input g.tuple g.head g.middle g.tail g.distinct g.items g.item g.alias g.from g.source g.more_source g.join g.filter g.groups g.having g.keys g.key g.order g.direction g.limit list_from repeat_from parts.item_sum parts.condition parts.value expr.many expr.chain expr.factor expr.neg expr.test_at expr.operand expr.aggregate expr.literal expr.negated expr.reference r.expect r.name r.digits r.text
 limit_too_high = refl
 
 -- `COMMIT COMMIT` neither
 two_statements : statement_of (Mark m.Commit ∷ Mark m.Commit ∷ [])
     ≡ None
-unfolding g.statement_rule g.create g.insert g.select g.transaction g.snapshot g.column g.nullity g.distribution g.names g.insert_columns g.insert_input g.tuple g.head g.middle g.tail g.distinct g.items g.item g.alias g.from g.source g.more_source g.join g.filter g.groups g.having g.keys g.key g.order g.direction g.limit list_from repeat_from parts.item_sum parts.condition parts.value expr.many expr.chain expr.factor expr.neg expr.test_at expr.operand expr.aggregate expr.literal expr.negated expr.reference r.expect r.name r.digits r.text
+unfolding g.statement_rule g.create g.alter g.addition g.new_column g.nullable g.insert g.select g.transaction g.snapshot g.column g.nullity g.distribution g.names g.insert_columns g.insert_input g.tuple g.head g.middle g.tail g.distinct g.items g.item g.alias g.from g.source g.more_source g.join g.filter g.groups g.having g.keys g.key g.order g.direction g.limit list_from repeat_from parts.item_sum parts.condition parts.value expr.many expr.chain expr.factor expr.neg expr.test_at expr.operand expr.aggregate expr.literal expr.negated expr.reference r.expect r.name r.digits r.text
 two_statements = refl
+
+-- `ALTER TABLE t ADD COLUMN b TEXT NULL`, and without COLUMN and NULL
+alter_adds : statement_of (Mark m.Alter ∷ Mark m.Table ∷ Name t ∷ Mark m.Add ∷ Mark m.Column ∷ Name b ∷ Mark m.Text ∷ Mark m.Null ∷ [])
+    ≡ Some (statement.Alter t (record { name = b; kind = kind.Text; not_null = false }))
+unfolding g.statement_rule g.create g.alter g.addition g.new_column g.nullable g.insert g.select g.transaction r.expect r.name
+alter_adds = refl
+
+alter_adds_bare : statement_of (Mark m.Alter ∷ Mark m.Table ∷ Name t ∷ Mark m.Add ∷ Name b ∷ Mark m.Int ∷ [])
+    ≡ Some (statement.Alter t (record { name = b; kind = kind.Int; not_null = false }))
+unfolding g.statement_rule g.create g.alter g.addition g.new_column g.nullable g.insert g.select g.transaction r.expect r.name
+alter_adds_bare = refl
+
+-- `ALTER TABLE t ADD b INT NOT NULL` is none
+alter_not_null : statement_of (Mark m.Alter ∷ Mark m.Table ∷ Name t ∷ Mark m.Add ∷ Name b ∷ Mark m.Int ∷ Mark m.Not ∷ Mark m.Null ∷ []) ≡ None
+unfolding g.statement_rule g.create g.alter g.addition g.new_column g.nullable g.insert g.select g.transaction r.expect r.name
+alter_not_null = refl

@@ -4,3 +4,5 @@ pub mod Exact
 pub mod Statements
 mod Tokens
 mod Turns
+pub mod Texts
+pub mod Fits

@@ -31,7 +31,7 @@ is_end _ = false
 
 -- one token tells the way through every statement
 pub statement_fits : fits g.statement_rule is_end ≡ true
-unfolding g.statement_rule g.create g.insert g.select g.transaction g.snapshot g.insert_input g.tuple g.names g.insert_columns g.distinct g.head g.middle g.tail g.items g.item g.alias g.source g.more_source g.join g.from g.filter g.groups g.having g.order g.direction g.key g.keys g.limit g.column g.nullity g.distribution peeks is_end
+unfolding g.statement_rule g.create g.alter g.addition g.new_column g.nullable g.insert g.select g.transaction g.snapshot g.insert_input g.tuple g.names g.insert_columns g.distinct g.head g.middle g.tail g.items g.item g.alias g.source g.more_source g.join g.from g.filter g.groups g.having g.order g.direction g.key g.keys g.limit g.column g.nullity g.distribution peeks is_end
 statement_fits = refl
 
 abbrev pub start : List Lexeme → State
@@ -94,19 +94,19 @@ text_refused text ls lexed refused s h = refused s (subst (λ ks. IsStatement ks
 
 pub begin_is : (ls : List Lexeme) → ls ≡ marks_alone (m.Begin ∷ []) → IsStatement ls (statement.Begin false)
 unfolding g.statement_rule g.transaction g.snapshot
-begin_is ls h = inr (inr (inr (inl (tt, statement.Begin false, [], h, (false, tt, [], inr (refl, refl), (refl, refl), refl), refl))))
+begin_is ls h = inr (inr (inr (inr (inl (tt, statement.Begin false, [], h, (false, tt, [], inr (refl, refl), (refl, refl), refl), refl)))))
 
 pub snapshot_is : (ls : List Lexeme) → ls ≡ marks_alone (m.Begin ∷ m.Snapshot ∷ []) → IsStatement ls (statement.Begin true)
 unfolding g.statement_rule g.transaction g.snapshot
-snapshot_is ls h = inr (inr (inr (inl (tt, statement.Begin true, lexeme.Mark m.Snapshot ∷ [], h, (true, tt, [], inl (tt, true, [], refl, (refl, refl), refl), (refl, refl), refl), refl))))
+snapshot_is ls h = inr (inr (inr (inr (inl (tt, statement.Begin true, lexeme.Mark m.Snapshot ∷ [], h, (true, tt, [], inl (tt, true, [], refl, (refl, refl), refl), (refl, refl), refl), refl)))))
 
 pub commit_is : (ls : List Lexeme) → ls ≡ marks_alone (m.Commit ∷ []) → IsStatement ls statement.Commit
 unfolding g.statement_rule g.transaction
-commit_is ls h = inr (inr (inr (inr (inl (tt, statement.Commit, [], h, (refl, refl), refl)))))
+commit_is ls h = inr (inr (inr (inr (inr (inl (tt, statement.Commit, [], h, (refl, refl), refl))))))
 
 pub rollback_is : (ls : List Lexeme) → ls ≡ marks_alone (m.Rollback ∷ []) → IsStatement ls statement.Rollback
 unfolding g.statement_rule g.transaction
-rollback_is ls h = inr (inr (inr (inr (inr (tt, statement.Rollback, [], h, (refl, refl), refl)))))
+rollback_is ls h = inr (inr (inr (inr (inr (inr (tt, statement.Rollback, [], h, (refl, refl), refl))))))
 
 abbrev pub words_of : Statement → List Lexeme
 words_of (statement.Begin false) = marks_alone (m.Begin ∷ [])
@@ -127,29 +127,33 @@ begin_same b c h = cc
 
 -- a statement of a transaction is just its words
 pub control_words : (ls : List Lexeme) (s : Statement) → IsControl s → IsStatement ls s → ls ≡ words_of s
-unfolding g.statement_rule g.transaction
+unfolding g.statement_rule g.transaction g.alter
 control_words ls (statement.Begin b) c (inl h) = let e = h.5 in cc
-control_words ls (statement.Begin b) c (inr (inl h)) = let e = h.5 in cc
+control_words ls (statement.Begin b) c (inr (inl h)) = let e = h.4.4.5 ∙ h.4.5 ∙ h.5 in cc
 control_words ls (statement.Begin b) c (inr (inr (inl h))) = let e = h.5 in cc
-control_words ls (statement.Begin b) c (inr (inr (inr (inl h)))) =
+control_words ls (statement.Begin b) c (inr (inr (inr (inl h)))) = let e = h.5 in cc
+control_words ls (statement.Begin b) c (inr (inr (inr (inr (inl h))))) =
     let same = begin_same h.4.0 b (h.4.5 ∙ h.5) in
     let end = h.4.4.1 in
     rw h.3 (snapshot_words h.2 b (subst (λ rest. Spells g.snapshot h.2 b rest) end (subst (λ x. Spells g.snapshot h.2 x h.4.2) same h.4.3)))
-control_words ls (statement.Begin b) c (inr (inr (inr (inr (inl h))))) = let e = sym h.4.0 ∙ h.5 in cc
-control_words ls (statement.Begin b) c (inr (inr (inr (inr (inr h))))) = let e = sym h.4.0 ∙ h.5 in cc
+control_words ls (statement.Begin b) c (inr (inr (inr (inr (inr (inl h)))))) = let e = sym h.4.0 ∙ h.5 in cc
+control_words ls (statement.Begin b) c (inr (inr (inr (inr (inr (inr h)))))) = let e = sym h.4.0 ∙ h.5 in cc
 control_words ls statement.Commit c (inl h) = let e = h.5 in cc
-control_words ls statement.Commit c (inr (inl h)) = let e = h.5 in cc
+control_words ls statement.Commit c (inr (inl h)) = let e = h.4.4.5 ∙ h.4.5 ∙ h.5 in cc
 control_words ls statement.Commit c (inr (inr (inl h))) = let e = h.5 in cc
-control_words ls statement.Commit c (inr (inr (inr (inl h)))) = let e = h.4.5 ∙ h.5 in cc
-control_words ls statement.Commit c (inr (inr (inr (inr (inl h))))) = rw (h.3, h.4.1) refl
-control_words ls statement.Commit c (inr (inr (inr (inr (inr h))))) = let e = sym h.4.0 ∙ h.5 in cc
+control_words ls statement.Commit c (inr (inr (inr (inl h)))) = let e = h.5 in cc
+control_words ls statement.Commit c (inr (inr (inr (inr (inl h))))) = let e = h.4.5 ∙ h.5 in cc
+control_words ls statement.Commit c (inr (inr (inr (inr (inr (inl h)))))) = rw (h.3, h.4.1) refl
+control_words ls statement.Commit c (inr (inr (inr (inr (inr (inr h)))))) = let e = sym h.4.0 ∙ h.5 in cc
 control_words ls statement.Rollback c (inl h) = let e = h.5 in cc
-control_words ls statement.Rollback c (inr (inl h)) = let e = h.5 in cc
+control_words ls statement.Rollback c (inr (inl h)) = let e = h.4.4.5 ∙ h.4.5 ∙ h.5 in cc
 control_words ls statement.Rollback c (inr (inr (inl h))) = let e = h.5 in cc
-control_words ls statement.Rollback c (inr (inr (inr (inl h)))) = let e = h.4.5 ∙ h.5 in cc
-control_words ls statement.Rollback c (inr (inr (inr (inr (inl h))))) = let e = sym h.4.0 ∙ h.5 in cc
-control_words ls statement.Rollback c (inr (inr (inr (inr (inr h))))) = rw (h.3, h.4.1) refl
+control_words ls statement.Rollback c (inr (inr (inr (inl h)))) = let e = h.5 in cc
+control_words ls statement.Rollback c (inr (inr (inr (inr (inl h))))) = let e = h.4.5 ∙ h.5 in cc
+control_words ls statement.Rollback c (inr (inr (inr (inr (inr (inl h)))))) = let e = sym h.4.0 ∙ h.5 in cc
+control_words ls statement.Rollback c (inr (inr (inr (inr (inr (inr h)))))) = rw (h.3, h.4.1) refl
 control_words ls (statement.Create x) c h = absurd c
+control_words ls (statement.Alter t x) c h = absurd c
 control_words ls (statement.Insert x) c h = absurd c
 control_words ls (statement.Select x) c h = absurd c
 
@@ -164,6 +168,7 @@ no_control text a b c d (statement.Begin true) is h = b (control_lexed text (sta
 no_control text a b c d statement.Commit is h = c (control_lexed text statement.Commit is h)
 no_control text a b c d statement.Rollback is h = d (control_lexed text statement.Rollback is h)
 no_control text a b c d (statement.Create x) is h = absurd is
+no_control text a b c d (statement.Alter t x) is h = absurd is
 no_control text a b c d (statement.Insert x) is h = absurd is
 no_control text a b c d (statement.Select x) is h = absurd is
 

@@ -9,8 +9,8 @@ use Rattle.hq_expr.specs.declared.tree.ColumnRef.{ColumnRef}
 use Rattle.hq_expr.specs.declared.tree.Literal.{Literal}
 use Rattle.hq_expr.specs.declared.tree.SqlExpr.{SqlExpr}
 use Rattle.hq_value.specs.declared.table.Column.{Column}
-use Rattle.hq_value.specs.declared.table.Kind.{Kind}
-use Rattle.hq_value.specs.declared.table.Kind.TheVariants as kind
+use Rattle.hq_value.specs.declared.kind.Kind.{Kind}
+use Rattle.hq_value.specs.declared.kind.Kind.TheVariants as kind
 use Rattle.hq_sql.specs.Rules.{Rule, nothing, mark, one_of, name, number, reference, value, sum, condition, both, either, listed, repeated, only, ◌▸◌, ◌◂◌, made, word, optional, optional_list, whether}
 use Rattle.hq_sql.specs.declared.tree.Statement.{Statement}
 use Rattle.hq_sql.specs.declared.tree.Statement.TheVariants as statement
@@ -73,6 +73,24 @@ create_of table rest = record { name = table; columns = rest.0; keys = rest.1 }
 unfoldable pub create : Rule CreateStatement
 create = mark m.Create ▸ (mark m.Table ▸ both create_of name
     (both (λ columns keys. (columns, keys)) (in_parentheses (listed column)) distribution))
+
+-- ---- ALTER TABLE
+
+-- [NULL]
+unfoldable pub nullable : Rule Bool
+nullable = either (word m.Null false) (nothing false)
+
+-- name kind [NULL]
+unfoldable pub new_column : Rule Column
+new_column = both column_of name (both (λ kind not_null. (kind, not_null)) (one_of kind_of) nullable)
+
+-- ADD [COLUMN] name kind [NULL]
+unfoldable pub addition : Rule Column
+addition = mark m.Add ▸ (either (mark m.Column) (nothing (tt {0})) ▸ new_column)
+
+-- alter = ALTER TABLE name ADD [COLUMN] name kind [NULL]
+unfoldable pub alter : Rule Statement
+alter = mark m.Alter ▸ (mark m.Table ▸ both (λ table column. statement.Alter table column) name addition)
 
 -- ---- SELECT
 
@@ -227,6 +245,6 @@ unfoldable pub transaction : Rule Statement
 transaction = either (mark m.Begin ▸ made statement.Begin snapshot)
     (either (word m.Commit statement.Commit) (word m.Rollback statement.Rollback))
 
--- statement = create | insert | select | BEGIN [SNAPSHOT] | COMMIT | ROLLBACK
+-- statement = create | alter | insert | select | BEGIN [SNAPSHOT] | COMMIT | ROLLBACK
 unfoldable pub statement_rule : Rule Statement
-statement_rule = either (made statement.Create create) (either (made statement.Insert insert) (either (made statement.Select select) transaction))
+statement_rule = either (made statement.Create create) (either alter (either (made statement.Insert insert) (either (made statement.Select select) transaction)))

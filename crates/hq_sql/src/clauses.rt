@@ -12,7 +12,7 @@ use std::alloc::Global;
 
 /// [WHERE condition]
 #[tactic(auto, unfolding(crate::specs::Grammar::filter, hq_expr::specs::Reader::expect))]
-pub fn filter(alloc: Global, cursor: &mut Cursor<'_>) -> Result<Option<SqlExpr>, ParseFault>
+pub fn filter(alloc: Global, cursor: &mut Cursor) -> Result<Option<SqlExpr>, ParseFault>
     ensures { Reads (read spec.filter cursor.old) result cursor.new }
 {
     if !cursor.sees(Mark::Where) {
@@ -24,7 +24,7 @@ pub fn filter(alloc: Global, cursor: &mut Cursor<'_>) -> Result<Option<SqlExpr>,
 
 /// [GROUP BY reference {"," reference}]
 #[tactic(auto, unfolding(crate::specs::Grammar::groups, hq_expr::specs::Reader::expect))]
-pub fn groups(alloc: Global, cursor: &mut Cursor<'_>) -> Result<ColumnRefs, ParseFault>
+pub fn groups(alloc: Global, cursor: &mut Cursor) -> Result<ColumnRefs, ParseFault>
     ensures { Reads (read spec.groups cursor.old) result cursor.new }
 {
     if !cursor.sees(Mark::Group) {
@@ -37,7 +37,7 @@ pub fn groups(alloc: Global, cursor: &mut Cursor<'_>) -> Result<ColumnRefs, Pars
 
 /// [HAVING condition], in which aggregates may stand
 #[tactic(auto, unfolding(crate::specs::Grammar::having, hq_expr::specs::Reader::expect))]
-pub fn having(alloc: Global, cursor: &mut Cursor<'_>) -> Result<Option<SqlExpr>, ParseFault>
+pub fn having(alloc: Global, cursor: &mut Cursor) -> Result<Option<SqlExpr>, ParseFault>
     ensures { Reads (read spec.having cursor.old) result cursor.new }
 {
     if !cursor.sees(Mark::Having) {
@@ -49,7 +49,7 @@ pub fn having(alloc: Global, cursor: &mut Cursor<'_>) -> Result<Option<SqlExpr>,
 
 /// [ORDER BY key {"," key}]
 #[tactic(auto, unfolding(crate::specs::Grammar::keys, hq_expr::specs::Reader::expect))]
-pub fn keys(alloc: Global, cursor: &mut Cursor<'_>) -> Result<OrderKeys, ParseFault>
+pub fn keys(alloc: Global, cursor: &mut Cursor) -> Result<OrderKeys, ParseFault>
     ensures { Reads (read spec.keys cursor.old) result cursor.new }
 {
     if !cursor.sees(Mark::Order) {
@@ -62,7 +62,7 @@ pub fn keys(alloc: Global, cursor: &mut Cursor<'_>) -> Result<OrderKeys, ParseFa
 
 /// [LIMIT digits]
 #[tactic(auto, unfolding(crate::specs::Grammar::limit, hq_expr::specs::Reader::expect))]
-pub fn limit(cursor: &mut Cursor<'_>) -> Result<Option<u64>, ParseFault>
+pub fn limit(cursor: &mut Cursor) -> Result<Option<u64>, ParseFault>
     ensures { Reads (read spec.limit cursor.old) result cursor.new }
 {
     if !cursor.sees(Mark::Limit) {
@@ -76,7 +76,7 @@ pub fn limit(cursor: &mut Cursor<'_>) -> Result<Option<u64>, ParseFault>
 const NUMBERS: u64 = 0x8000_0000_0000_0000;
 
 // digits
-fn number(cursor: &mut Cursor<'_>) -> Result<u64, ParseFault>
+fn number(cursor: &mut Cursor) -> Result<u64, ParseFault>
     ensures { Reads (read spec.digits_below cursor.old) result cursor.new }
 {
     let n = cursor.digits()?;
@@ -92,8 +92,8 @@ impl Member for ColumnRef {
 
     ghost parser = { reference };
 
-    fn read(alloc: Global, cursor: &mut Cursor<'_>) -> Result<ColumnRef, ParseFault> {
-        reference(alloc, cursor)
+    fn read(_alloc: Global, cursor: &mut Cursor) -> Result<ColumnRef, ParseFault> {
+        reference(cursor)
     }
 }
 
@@ -104,8 +104,8 @@ impl Member for OrderKey {
     ghost parser = { read key };
 
     #[tactic(auto, unfolding(crate::specs::Grammar::key))]
-    fn read(alloc: Global, cursor: &mut Cursor<'_>) -> Result<OrderKey, ParseFault> {
-        let by = order(alloc, cursor)?;
+    fn read(_alloc: Global, cursor: &mut Cursor) -> Result<OrderKey, ParseFault> {
+        let by = order(cursor)?;
         let descending = direction(cursor);
         Ok(OrderKey { by, descending })
     }
@@ -113,18 +113,18 @@ impl Member for OrderKey {
 
 // name | digits
 #[tactic(auto, unfolding(crate::specs::Grammar::order))]
-fn order(alloc: Global, cursor: &mut Cursor<'_>) -> Result<OrderBy, ParseFault>
+fn order(cursor: &mut Cursor) -> Result<OrderBy, ParseFault>
     ensures { Reads (read spec.order cursor.old) result cursor.new }
 {
     match cursor.peek() {
-        Peek::Name => Ok(OrderBy::Column(cursor.name(alloc)?)),
+        Peek::Name => Ok(OrderBy::Column(cursor.name()?)),
         _ => Ok(OrderBy::Place(number(cursor)?)),
     }
 }
 
 // [ASC | DESC]: whether it is DESC.
 #[tactic(auto, unfolding(crate::specs::Grammar::direction, hq_expr::specs::Reader::expect))]
-fn direction(cursor: &mut Cursor<'_>) -> bool
+fn direction(cursor: &mut Cursor) -> bool
     ensures { Reads (read spec.direction cursor.old) (Ok result) cursor.new }
 {
     let descending = cursor.sees(Mark::Desc);

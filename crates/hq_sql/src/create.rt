@@ -14,12 +14,12 @@ use std::alloc::Global;
 
 /// CREATE TABLE name "(" column {"," column} ")" [distribution]
 #[tactic(auto, unfolding(crate::specs::Grammar::create))]
-pub fn create(alloc: Global, cursor: &mut Cursor<'_>) -> Result<CreateStatement, ParseFault>
+pub fn create(alloc: Global, cursor: &mut Cursor) -> Result<CreateStatement, ParseFault>
     ensures { Reads (read spec.create cursor.old) result cursor.new }
 {
     cursor.expect(Mark::Create)?;
     cursor.expect(Mark::Table)?;
-    let name = cursor.name(alloc)?;
+    let name = cursor.name()?;
     cursor.expect(Mark::Open)?;
     let columns = listed(alloc, cursor)?;
     cursor.expect(Mark::Close)?;
@@ -38,8 +38,8 @@ impl Member for Column {
     ghost parser = { read column };
 
     #[tactic(auto, unfolding(crate::specs::Grammar::column))]
-    fn read(alloc: Global, cursor: &mut Cursor<'_>) -> Result<Column, ParseFault> {
-        let name = cursor.name(alloc)?;
+    fn read(_alloc: Global, cursor: &mut Cursor) -> Result<Column, ParseFault> {
+        let name = cursor.name()?;
         let kind = kind(cursor)?;
         let not_null = nullity(cursor)?;
         Ok(Column {
@@ -64,7 +64,8 @@ fn kind_of(mark: Mark) -> Option<Kind>
     }
 }
 
-fn kind(cursor: &mut Cursor<'_>) -> Result<Kind, ParseFault>
+/// INT | INTEGER | BIGINT | BOOL | BOOLEAN | TEXT
+pub fn kind(cursor: &mut Cursor) -> Result<Kind, ParseFault>
     ensures { Reads (read (one_of spec.kind_of) cursor.old) result cursor.new }
 {
     let Peek::Mark(mark) = cursor.peek() else {
@@ -81,7 +82,7 @@ fn kind(cursor: &mut Cursor<'_>) -> Result<Kind, ParseFault>
 
 // [NOT NULL | NULL]
 #[tactic(auto, unfolding(crate::specs::Grammar::nullity, hq_expr::specs::Reader::expect))]
-fn nullity(cursor: &mut Cursor<'_>) -> Result<bool, ParseFault>
+fn nullity(cursor: &mut Cursor) -> Result<bool, ParseFault>
     ensures { Reads (read spec.nullity cursor.old) result cursor.new }
 {
     if cursor.sees(Mark::Not) {
@@ -97,7 +98,7 @@ fn nullity(cursor: &mut Cursor<'_>) -> Result<bool, ParseFault>
 
 // [DISTRIBUTED BY "(" name {"," name} ")" | DISTRIBUTED RANDOMLY]
 #[tactic(auto, unfolding(crate::specs::Grammar::distribution, hq_expr::specs::Reader::expect))]
-fn distribution(alloc: Global, cursor: &mut Cursor<'_>) -> Result<Names, ParseFault>
+fn distribution(alloc: Global, cursor: &mut Cursor) -> Result<Names, ParseFault>
     ensures { Reads (read spec.distribution cursor.old) result cursor.new }
 {
     if !cursor.sees(Mark::Distributed) {

@@ -13,12 +13,12 @@ use std::alloc::Global;
 
 /// INSERT INTO name ["(" name {"," name} ")"] (VALUES tuple {"," tuple} | select)
 #[tactic(auto, unfolding(crate::specs::Grammar::insert))]
-pub fn insert(alloc: Global, cursor: &mut Cursor<'_>) -> Result<InsertStatement, ParseFault>
+pub fn insert(alloc: Global, cursor: &mut Cursor) -> Result<InsertStatement, ParseFault>
     ensures { Reads (read spec.insert cursor.old) result cursor.new }
 {
     cursor.expect(Mark::Insert)?;
     cursor.expect(Mark::Into)?;
-    let name = cursor.name(alloc)?;
+    let name = cursor.name()?;
     let columns = columns(alloc, cursor)?;
     let input = input(alloc, cursor)?;
     Ok(InsertStatement {
@@ -30,7 +30,7 @@ pub fn insert(alloc: Global, cursor: &mut Cursor<'_>) -> Result<InsertStatement,
 
 // ["(" name {"," name} ")"]
 #[tactic(auto, unfolding(crate::specs::Grammar::insert_columns, crate::specs::Grammar::names))]
-fn columns(alloc: Global, cursor: &mut Cursor<'_>) -> Result<Names, ParseFault>
+fn columns(alloc: Global, cursor: &mut Cursor) -> Result<Names, ParseFault>
     ensures { Reads (read spec.insert_columns cursor.old) result cursor.new }
 {
     if cursor.sees(Mark::Open) {
@@ -42,7 +42,7 @@ fn columns(alloc: Global, cursor: &mut Cursor<'_>) -> Result<Names, ParseFault>
 
 // VALUES tuple {"," tuple} | select
 #[tactic(auto, unfolding(crate::specs::Grammar::insert_input, hq_expr::specs::Reader::expect))]
-fn input(alloc: Global, cursor: &mut Cursor<'_>) -> Result<InsertInput, ParseFault>
+fn input(alloc: Global, cursor: &mut Cursor) -> Result<InsertInput, ParseFault>
     ensures { Reads (read spec.insert_input cursor.old) result cursor.new }
 {
     if cursor.sees(Mark::Values) {
@@ -57,8 +57,8 @@ impl Member for Literal {
 
     ghost parser = { value };
 
-    fn read(alloc: Global, cursor: &mut Cursor<'_>) -> Result<Literal, ParseFault> {
-        value(alloc, cursor)
+    fn read(_alloc: Global, cursor: &mut Cursor) -> Result<Literal, ParseFault> {
+        value(cursor)
     }
 }
 
@@ -69,7 +69,7 @@ impl Member for Literals {
     ghost parser = { read tuple };
 
     #[tactic(auto, unfolding(crate::specs::Grammar::tuple))]
-    fn read(alloc: Global, cursor: &mut Cursor<'_>) -> Result<Literals, ParseFault> {
+    fn read(alloc: Global, cursor: &mut Cursor) -> Result<Literals, ParseFault> {
         cursor.expect(Mark::Open)?;
         let literals = listed(alloc, cursor)?;
         cursor.expect(Mark::Close)?;

@@ -14,7 +14,7 @@ pub trait Member: Sized + Drop {
     ghost parser: { Parser Self };
 
     /// Reads one.
-    fn read(alloc: Global, cursor: &mut Cursor<'_>) -> Result<Self, ParseFault>
+    fn read(alloc: Global, cursor: &mut Cursor) -> Result<Self, ParseFault>
         ensures { Reads (parser cursor.old) result cursor.new };
 }
 
@@ -29,7 +29,7 @@ pub trait Following: Member {
 
 /// One or more, with commas between them.
 #[tactic(auto, unfolding(hq_expr::specs::Lists::list_from))]
-pub fn listed<T: Member>(alloc: Global, cursor: &mut Cursor<'_>) -> Result<Sequence<T>, ParseFault>
+pub fn listed<T: Member>(alloc: Global, cursor: &mut Cursor) -> Result<Sequence<T>, ParseFault>
     ensures { Reads (list T.parser cursor.old) result cursor.new }
 {
     let mut found = Sequence::new(alloc);
@@ -46,10 +46,7 @@ pub fn listed<T: Member>(alloc: Global, cursor: &mut Cursor<'_>) -> Result<Seque
 
 /// Any number, one behind another.
 #[tactic(auto, unfolding(crate::specs::Reading::repeat_from))]
-pub fn repeated<T: Following>(
-    alloc: Global,
-    cursor: &mut Cursor<'_>,
-) -> Result<Sequence<T>, ParseFault>
+pub fn repeated<T: Following>(alloc: Global, cursor: &mut Cursor) -> Result<Sequence<T>, ParseFault>
     ensures { Reads (repeat T.starts T.parser cursor.old) result cursor.new }
 {
     let mut found = Sequence::new(alloc);

@@ -14,14 +14,14 @@ impl Member for Name {
 
     ghost parser = { name };
 
-    fn read(alloc: Global, cursor: &mut Cursor<'_>) -> Result<Name, ParseFault> {
-        cursor.name(alloc)
+    fn read(_alloc: Global, cursor: &mut Cursor) -> Result<Name, ParseFault> {
+        cursor.name()
     }
 }
 
 /// "(" name {"," name} ")"
 #[tactic(auto, unfolding(crate::specs::Grammar::names))]
-pub fn names(alloc: Global, cursor: &mut Cursor<'_>) -> Result<Names, ParseFault>
+pub fn names(alloc: Global, cursor: &mut Cursor) -> Result<Names, ParseFault>
     ensures { Reads (read spec.names cursor.old) result cursor.new }
 {
     cursor.expect(Mark::Open)?;
@@ -32,15 +32,15 @@ pub fn names(alloc: Global, cursor: &mut Cursor<'_>) -> Result<Names, ParseFault
 
 /// [[AS] name]
 #[tactic(auto, unfolding(crate::specs::Grammar::alias, hq_expr::specs::Reader::expect))]
-pub fn alias(alloc: Global, cursor: &mut Cursor<'_>) -> Result<Option<Name>, ParseFault>
+pub fn alias(cursor: &mut Cursor) -> Result<Option<Name>, ParseFault>
     ensures { Reads (read spec.alias cursor.old) result cursor.new }
 {
     if cursor.sees(Mark::As) {
         cursor.skip();
-        return Ok(Some(cursor.name(alloc)?));
+        return Ok(Some(cursor.name()?));
     }
     match cursor.peek() {
-        Peek::Name => Ok(Some(cursor.name(alloc)?)),
+        Peek::Name => Ok(Some(cursor.name()?)),
         _ => Ok(None),
     }
 }

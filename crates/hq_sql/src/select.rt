@@ -40,7 +40,7 @@ pub struct Ordered {
 
 /// A SELECT. Over more than one source it has no COUNT, and no SUM whose argument has no column.
 #[tactic(auto, unfolding(crate::specs::Grammar::select))]
-pub fn select(alloc: Global, cursor: &mut Cursor<'_>) -> Result<SelectStatement, ParseFault>
+pub fn select(alloc: Global, cursor: &mut Cursor) -> Result<SelectStatement, ParseFault>
     ensures { Reads (read spec.select cursor.old) result cursor.new }
 {
     let head = head(alloc, cursor)?;
@@ -56,7 +56,7 @@ pub fn select(alloc: Global, cursor: &mut Cursor<'_>) -> Result<SelectStatement,
 
 // SELECT [DISTINCT] ("*" | item {"," item}) FROM ..
 #[tactic(auto, unfolding(crate::specs::Grammar::head))]
-fn head(alloc: Global, cursor: &mut Cursor<'_>) -> Result<Selected, ParseFault>
+fn head(alloc: Global, cursor: &mut Cursor) -> Result<Selected, ParseFault>
     ensures { Reads (read spec.head cursor.old) result cursor.new }
 {
     cursor.expect(Mark::Select)?;
@@ -72,7 +72,7 @@ fn head(alloc: Global, cursor: &mut Cursor<'_>) -> Result<Selected, ParseFault>
 
 // [DISTINCT]: whether it is there.
 #[tactic(auto, unfolding(crate::specs::Grammar::distinct, hq_expr::specs::Reader::expect))]
-fn distinct(cursor: &mut Cursor<'_>) -> bool
+fn distinct(cursor: &mut Cursor) -> bool
     ensures { Reads (read spec.distinct cursor.old) (Ok result) cursor.new }
 {
     let distinct = cursor.sees(Mark::Distinct);
@@ -84,7 +84,7 @@ fn distinct(cursor: &mut Cursor<'_>) -> bool
 
 // "*" | item {"," item}
 #[tactic(auto, unfolding(crate::specs::Grammar::items, hq_expr::specs::Reader::expect))]
-fn items(alloc: Global, cursor: &mut Cursor<'_>) -> Result<Items, ParseFault>
+fn items(alloc: Global, cursor: &mut Cursor) -> Result<Items, ParseFault>
     ensures { Reads (read spec.items cursor.old) result cursor.new }
 {
     if cursor.sees(Mark::Star) {
@@ -102,16 +102,16 @@ impl Member for Item {
     ghost parser = { read item };
 
     #[tactic(auto, unfolding(crate::specs::Grammar::item))]
-    fn read(alloc: Global, cursor: &mut Cursor<'_>) -> Result<Item, ParseFault> {
+    fn read(alloc: Global, cursor: &mut Cursor) -> Result<Item, ParseFault> {
         let expr = item_sum(alloc, cursor)?;
-        let alias = alias(alloc, cursor)?;
+        let alias = alias(cursor)?;
         Ok(Item { expr, alias })
     }
 }
 
 // [WHERE ..] [GROUP BY ..] [HAVING ..]
 #[tactic(auto, unfolding(crate::specs::Grammar::middle))]
-fn middle(alloc: Global, cursor: &mut Cursor<'_>) -> Result<Grouped, ParseFault>
+fn middle(alloc: Global, cursor: &mut Cursor) -> Result<Grouped, ParseFault>
     ensures { Reads (read spec.middle cursor.old) result cursor.new }
 {
     let filter = filter(alloc, cursor)?;
@@ -126,7 +126,7 @@ fn middle(alloc: Global, cursor: &mut Cursor<'_>) -> Result<Grouped, ParseFault>
 
 // [ORDER BY ..] [LIMIT ..]
 #[tactic(auto, unfolding(crate::specs::Grammar::tail))]
-fn tail(alloc: Global, cursor: &mut Cursor<'_>) -> Result<Ordered, ParseFault>
+fn tail(alloc: Global, cursor: &mut Cursor) -> Result<Ordered, ParseFault>
     ensures { Reads (read spec.tail cursor.old) result cursor.new }
 {
     let keys = keys(alloc, cursor)?;

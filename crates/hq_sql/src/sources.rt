@@ -19,11 +19,11 @@ pub struct Joined {
 
 /// FROM source {"," source | [INNER] JOIN source ON condition}: the first source, and the others.
 #[tactic(auto, unfolding(crate::specs::Grammar::from))]
-pub fn from(alloc: Global, cursor: &mut Cursor<'_>) -> Result<SourceList, ParseFault>
+pub fn from(alloc: Global, cursor: &mut Cursor) -> Result<SourceList, ParseFault>
     ensures { Reads (read spec.from cursor.old) result cursor.new }
 {
     cursor.expect(Mark::From)?;
-    let first = source(alloc, cursor)?;
+    let first = source(cursor)?;
     let others = repeated(alloc, cursor)?;
     Ok(SourceList { first, others })
 }
@@ -37,17 +37,17 @@ pub struct SourceList {
 
 // name [[AS] name]
 #[tactic(auto, unfolding(crate::specs::Grammar::source))]
-fn source(alloc: Global, cursor: &mut Cursor<'_>) -> Result<SourceName, ParseFault>
+fn source(cursor: &mut Cursor) -> Result<SourceName, ParseFault>
     ensures { Reads (read spec.source cursor.old) result cursor.new }
 {
-    let table = cursor.name(alloc)?;
-    let alias = alias(alloc, cursor)?;
+    let table = cursor.name()?;
+    let alias = alias(cursor)?;
     Ok(SourceName { table, alias })
 }
 
 // [INNER] JOIN
 #[tactic(auto, unfolding(crate::specs::Grammar::join, hq_expr::specs::Reader::expect))]
-fn join(cursor: &mut Cursor<'_>) -> Result<(), ParseFault>
+fn join(cursor: &mut Cursor) -> Result<(), ParseFault>
     ensures { Reads (read spec.join cursor.old) result cursor.new }
 {
     if cursor.sees(Mark::Inner) {
@@ -63,14 +63,14 @@ impl Member for Joined {
     ghost parser = { read more_source };
 
     #[tactic(auto, unfolding(crate::specs::Grammar::more_source, hq_expr::specs::Reader::expect))]
-    fn read(alloc: Global, cursor: &mut Cursor<'_>) -> Result<Joined, ParseFault> {
+    fn read(alloc: Global, cursor: &mut Cursor) -> Result<Joined, ParseFault> {
         if cursor.sees(Mark::Comma) {
             cursor.skip();
-            let source = source(alloc, cursor)?;
+            let source = source(cursor)?;
             return Ok(Joined { source, on: None });
         }
         join(cursor)?;
-        let source = source(alloc, cursor)?;
+        let source = source(cursor)?;
         cursor.expect(Mark::On)?;
         let on = condition(alloc, cursor, false)?;
         Ok(Joined {

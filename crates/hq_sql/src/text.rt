@@ -17,29 +17,37 @@ pub fn parse(alloc: Global, text: &[u8]) -> Result<Statement, ParseFault>
 {
     match str::from_utf8(text) {
         Err(_) => Err(ParseFault::Syntax),
-        Ok(_) => lexed(alloc, text),
+        Ok(text) => lexed(alloc, text),
     }
 }
 
 // Of a text that is UTF-8.
-fn lexed(alloc: Global, text: &[u8]) -> Result<Statement, ParseFault>
-    requires { IsUtf8 text.now }
+fn lexed(alloc: Global, text: &str) -> Result<Statement, ParseFault>
     ensures found { IfOk result (λ s. Parses text.now s) }
     ensures refused { IsErrOf result ParseFault.Syntax → (s : StatementType) → Parses text.now s → ⊥ }
 {
     match lexemes(alloc, text) {
         Err(fault) => Err(fault),
-        Ok(lexemes) => whole(alloc, lexemes.as_slice()),
+        Ok(lexemes) => whole(alloc, lexemes),
     }
 }
 
 // The statement that these lexemes are.
-fn whole(alloc: Global, lexemes: &[Lexeme]) -> Result<Statement, ParseFault>
-    ensures found { IfOk result (λ s. IsStatement lexemes.now s) }
-    ensures refused { IsErrOf result ParseFault.Syntax → (s : StatementType) → IsStatement lexemes.now s → ⊥ }
+fn whole(alloc: Global, lexemes: Vec<Lexeme>) -> Result<Statement, ParseFault>
+    ensures found { IfOk result (λ s. IsStatement lexemes.items s) }
+    ensures refused { IsErrOf result ParseFault.Syntax → (s : StatementType) → IsStatement lexemes.items s → ⊥ }
 {
     let mut cursor = Cursor::new(lexemes);
-    match statement(alloc, &mut cursor) {
+    alone(alloc, &mut cursor)
+}
+
+// The statement that the lexemes of a cursor at their first are.
+fn alone(alloc: Global, cursor: &mut Cursor) -> Result<Statement, ParseFault>
+    requires { cursor.old ≡ record { left = 256; rest = cursor.old.rest } }
+    ensures found { IfOk result (λ s. IsStatement cursor.old.rest s) }
+    ensures refused { IsErrOf result ParseFault.Syntax → (s : StatementType) → IsStatement cursor.old.rest s → ⊥ }
+{
+    match statement(alloc, cursor) {
         Err(fault) => Err(fault),
         Ok(statement) => {
             if cursor.is_done() {

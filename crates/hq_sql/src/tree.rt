@@ -1,12 +1,14 @@
 //! Statements as trees.
 
 use hq_expr::{ColumnRef, Literal, SqlExpr};
-use hq_value::{Columns, Name, Sequence};
+use hq_value::{Column, Columns, Name, Sequence};
 
 /// A statement.
 #[derive(Debug, Drop)]
 pub enum Statement {
     Create(CreateStatement),
+    /// ALTER TABLE: the column is added last, and takes NULL.
+    Alter { table: Name, column: Column },
     Insert(InsertStatement),
     Select(SelectStatement),
     Begin { snapshot: bool },

@@ -1,5 +1,5 @@
 use Rattle.std.proofs.Common.{◌≡◌, sym, arith}
-use Rattle.hq_lex.proofs.TokenLaws.{step_past_end}
+use Rattle.hq_lex.proofs.TokenLaws.{step_past_end, step_found}
 use Rattle.hq_expr.proofs.Texts.{lexed_all, fault_lexed, token_lexed, lexed_more}
 use Rattle.hq_expr.proofs.lexing.lexemes.Goals as goal
 
@@ -27,3 +27,7 @@ lex-preserved c = record {
 
 pub returns-clause-found : goal.returns-clause-found
 returns-clause-found c = lexed_all c.args.text.now c.lex.at c.lex.out.items c.lex.invariant.more (step_past_end c.lex.at c.args.text.now (omega arith))
+
+pub lexeme-requires-clause-token : goal.lexeme-requires-clause-token
+lexeme-requires-clause-token c =
+    (step_found c.lex.at c.args.text.now c.in-Token.kind c.in-Token.start c.in-Token.end c.lex.invariant.within (sym c.in-Token.ensures.value)).3

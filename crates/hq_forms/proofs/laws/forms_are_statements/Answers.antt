@@ -1,4 +1,4 @@
-use Rattle.hq_forms.proofs.Texts.{parses-from, parses-to}
+use Rattle.hq_sql.proofs.Texts.{parses-from, parses-to}
 use Rattle.hq_forms.proofs.Forms.{form_found, form_given}
 use Rattle.hq_forms.proofs.laws.forms_are_statements.Goals as goal
 
