@@ -1,10 +1,10 @@
 -- Kinds of what small operators give; small plans that are well formed, and some that are not.
 use Rattle.std.proofs.Common.{◌≡◌, ℕ, List, [], ◌∷◌, true, false, Some, None, refl}
 use Rattle.hq_value.specs.declared.value.Value.TheVariants as value
-use Rattle.hq_value.specs.declared.table.Kind.{Kind}
-use Rattle.hq_value.specs.declared.table.Kind.TheVariants as kind
-use Rattle.hq_algebra.specs.declared.expr.ArithKind.TheVariants as arith
-use Rattle.hq_algebra.specs.declared.expr.CompareKind.TheVariants as compare
+use Rattle.hq_value.specs.declared.kind.Kind.{Kind}
+use Rattle.hq_value.specs.declared.kind.Kind.TheVariants as kind
+use Rattle.hq_value.specs.declared.operator.ArithKind.TheVariants as arith
+use Rattle.hq_value.specs.declared.operator.CompareKind.TheVariants as compare
 use Rattle.hq_algebra.specs.declared.expr.Expr.TheVariants as e
 use Rattle.hq_algebra.specs.declared.aggregate.Aggregate.{Aggregate}
 use Rattle.hq_algebra.specs.declared.aggregate.Aggregate.TheVariants as agg

@@ -1,8 +1,8 @@
 -- What `eval` is at each part of an expression.
 use Rattle.std.proofs.Common.{◌≡◌, List, refl}
 use Rattle.hq_value.specs.declared.value.Value.{Value}
-use Rattle.hq_algebra.specs.declared.expr.ArithKind.{ArithKind}
-use Rattle.hq_algebra.specs.declared.expr.CompareKind.{CompareKind}
+use Rattle.hq_value.specs.declared.operator.ArithKind.{ArithKind}
+use Rattle.hq_value.specs.declared.operator.CompareKind.{CompareKind}
 use Rattle.hq_algebra.specs.declared.expr.Expr.{Expr}
 use Rattle.hq_algebra.specs.declared.expr.Expr.TheVariants as e
 use Rattle.hq_algebra.specs.declared.expr.Expr.TheBlock.{hidden-the_row-Expr-0}

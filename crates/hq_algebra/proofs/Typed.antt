@@ -1,11 +1,11 @@
 -- What `expr_kind` is at each part of an expression.
 use Rattle.std.proofs.Common.{◌≡◌, Bool, ◌&&◌, List, refl, ap}
 use Rattle.std.specs.Cmp.Lexicographic.{pointwise}
-use Rattle.hq_value.specs.declared.table.Kind.{Kind}
-use Rattle.hq_value.specs.declared.table.Kind.TheVariants as kind
-use Rattle.hq_value.specs.contracts.table.KindPartialEq.TheImpl as equality
-use Rattle.hq_algebra.specs.declared.expr.ArithKind.{ArithKind}
-use Rattle.hq_algebra.specs.declared.expr.CompareKind.{CompareKind}
+use Rattle.hq_value.specs.declared.kind.Kind.{Kind}
+use Rattle.hq_value.specs.declared.kind.Kind.TheVariants as kind
+use Rattle.hq_value.specs.contracts.kind.KindPartialEq.TheImpl as equality
+use Rattle.hq_value.specs.declared.operator.ArithKind.{ArithKind}
+use Rattle.hq_value.specs.declared.operator.CompareKind.{CompareKind}
 use Rattle.hq_algebra.specs.declared.expr.Expr.{Expr}
 use Rattle.hq_algebra.specs.declared.expr.Expr.TheVariants as e
 use Rattle.hq_algebra.specs.declared.expr.Expr.TheBlock.{hidden-the_row-Expr-0}

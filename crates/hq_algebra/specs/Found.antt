@@ -1,7 +1,7 @@
 -- What a call that seeks kinds answers.
 --     Gives result o        the call answers what there is, or Wrong where there is none, unless memory ran out
 use Rattle.std.specs.Prelude.{◌≡◌, List, Option, Some, None, Result, Ok, Err}
-use Rattle.hq_value.specs.declared.table.Kind.{Kind}
+use Rattle.hq_value.specs.declared.kind.Kind.{Kind}
 use Rattle.hq_algebra.specs.declared.misfit.Misfit.{Misfit}
 use Rattle.hq_algebra.specs.declared.misfit.Misfit.TheVariants as misfit
 

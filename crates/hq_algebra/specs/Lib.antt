@@ -1,4 +1,5 @@
 pub mod Answer
+pub mod Bound
 pub mod Eval
 pub mod Found
 pub mod Kinds

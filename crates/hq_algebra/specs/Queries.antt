@@ -3,8 +3,8 @@
 --                                does not fit; `kinds` are those of each table's columns, by its number
 use Rattle.std.specs.Prelude.{ℕ, Bool, ◌&&◌, List, ◌++◌, Option, Some, flat_map, if◌then◌else◌}
 use Rattle.std.specs.List.{list_all}
-use Rattle.hq_value.specs.declared.table.Kind.{Kind}
-use Rattle.hq_value.specs.declared.table.Kind.TheVariants as kind
+use Rattle.hq_value.specs.declared.kind.Kind.{Kind}
+use Rattle.hq_value.specs.declared.kind.Kind.TheVariants as kind
 use Rattle.hq_algebra.specs.declared.expr.Expr.{Expr}
 use Rattle.hq_algebra.specs.declared.query.Query.{Query}
 use Rattle.hq_algebra.specs.Kinds.{◌>>=◌, is_of, expr_kind, some_if}

@@ -3,15 +3,14 @@
 --     compare_of kind a b         a comparison, unknown at NULL
 --     and_of, or_of, not_of       the tables of TRUE, FALSE and unknown
 use Rattle.std.specs.Prelude.{◌≡◌, Option, Some, None, ◌^◌, Bool, true, false, not, ℤ, pos, negsuc, ◌+ℤ◌, ◌*ℤ◌, neg_ℤ, nat_lt, if◌then◌else◌}
-use Rattle.std.specs.Ordering.{is_eq, is_ne, is_lt, is_le, is_gt, is_ge}
-use Rattle.std.specs.declared.cmp.Ordering.{Ordering}
 use Rattle.hq_value.specs.declared.value.Value.{Value}
 use Rattle.hq_value.specs.declared.value.Value.TheVariants as value
 use Rattle.hq_value.specs.Order.{value_cmp}
-use Rattle.hq_algebra.specs.declared.expr.ArithKind.{ArithKind}
-use Rattle.hq_algebra.specs.declared.expr.ArithKind.TheVariants as arith
-use Rattle.hq_algebra.specs.declared.expr.CompareKind.{CompareKind}
-use Rattle.hq_algebra.specs.declared.expr.CompareKind.TheVariants as compare
+use Rattle.hq_value.specs.Compare.{passes}
+use Rattle.hq_value.specs.declared.operator.ArithKind.{ArithKind}
+use Rattle.hq_value.specs.declared.operator.ArithKind.TheVariants as arith
+use Rattle.hq_value.specs.declared.operator.CompareKind.{CompareKind}
+use Rattle.hq_value.specs.declared.operator.CompareKind.TheVariants as compare
 use Rattle.hq_algebra.specs.Outcome.{Outcome, Is, Fault}
 
 -- the number lies in 64 bits, with its sign
@@ -36,14 +35,6 @@ arith_of kind _ _ = Is value.Null
 abbrev pub Steps : Option ℤ → ℤ → Type 0
 Steps None n = is_64 n ≡ false
 Steps (Some m) n = (is_64 n ≡ true) × (m ≡ n)
-
-abbrev pub passes : CompareKind → Ordering → Bool
-passes compare.Equal o = is_eq o
-passes compare.NotEqual o = is_ne o
-passes compare.Less o = is_lt o
-passes compare.AtMost o = is_le o
-passes compare.Greater o = is_gt o
-passes compare.AtLeast o = is_ge o
 
 -- by value order; unknown, which is NULL, where a side is NULL
 abbrev pub compare_of : CompareKind → Value → Value → Value

@@ -8,7 +8,6 @@ ghost use Rattle.hq_algebra.specs.Answer.{Agrees, IsOfText, value_of, seen_outco
 use crate::steps::{and, compared, from_truth, is_null, not, or, step, truth};
 use crate::{ArithKind, CompareKind, Expr};
 use hq_value::{Row, Value};
-use std::alloc::Global;
 
 /// What an expression gives over a row, or that there was no memory for it.
 #[derive(Debug, Drop)]
@@ -21,13 +20,14 @@ pub enum Evaluated {
 
 /// A value that was computed, or one that stands in the row or the expression.
 #[derive(Drop)]
-enum Seen<'a> {
+pub enum Seen<'a> {
     Made(Value),
     Kept(&'a Value),
 }
 
 impl Seen<'_> {
-    fn get(&self) -> &Value
+    /// The value.
+    pub fn get(&self) -> &Value
         ensures { result.now ≡ value_of self.now }
     {
         match self {
@@ -37,27 +37,27 @@ impl Seen<'_> {
     }
 }
 
-/// The value of an expression over a row. Both operands of a part are evaluated. Memory is taken only for a text
-/// that is returned. The call is nested at most as deep as the expression, so no deeper than its parts and one.
-pub fn eval(alloc: Global, e: &Expr, row: &Row) -> Evaluated
+/// The value of an expression over a row. Both operands of a part are evaluated. A text that is returned is shared
+/// with the row or the expression, and only that can want memory. The call is nested at most as deep as the expression, so no deeper than its parts and one.
+pub fn eval(e: &Expr, row: &Row) -> Evaluated
     ensures value { Agrees result (spec.eval e.now row.now) }
     ensures no_memory { result ≡ Evaluated.NoMemory → IsOfText (spec.eval e.now row.now) }
 {
     match look(e, row.as_slice()) {
         Some(Seen::Made(value)) => Evaluated::Is(value),
-        Some(Seen::Kept(value)) => copied(alloc, value),
+        Some(Seen::Kept(value)) => copied(value),
         None => Evaluated::Fault,
     }
 }
 
-fn copied(alloc: Global, value: &Value) -> Evaluated
+fn copied(value: &Value) -> Evaluated
     ensures value { Agrees result (Is value.now) }
     ensures no_memory { result ≡ Evaluated.NoMemory → IsOfText (Is value.now) }
 {
     match value {
         Value::Bool(b) => Evaluated::Is(Value::Bool(*b)),
         Value::Int(n) => Evaluated::Is(Value::Int(*n)),
-        Value::Text(text) => match text.copy(alloc) {
+        Value::Text(text) => match text.copy() {
             Ok(text) => Evaluated::Is(Value::Text(text)),
             Err(_) => Evaluated::NoMemory,
         },
@@ -65,8 +65,9 @@ fn copied(alloc: Global, value: &Value) -> Evaluated
     }
 }
 
-// The value of an expression, or none at a fault.
-fn look<'a>(e: &'a Expr, row: &'a [Value]) -> Option<Seen<'a>>
+/// The value of an expression over a row, or none at a fault. It takes no memory. The call is nested at most as deep as
+/// the expression.
+pub fn look<'a>(e: &'a Expr, row: &'a [Value]) -> Option<Seen<'a>>
     ensures { seen_outcome result ≡ spec.eval e.now row.now }
 {
     match e {

@@ -1,25 +1,6 @@
 //! Expressions.
-use hq_value::{Sequence, Value};
+use hq_value::{ArithKind, CompareKind, Sequence, Value};
 use sqlite_items::Boxed;
-
-/// A step of arithmetic.
-#[derive(Clone, Copy, Debug, PartialEq, Eq)]
-pub enum ArithKind {
-    Plus,
-    Minus,
-    Times,
-}
-
-/// A comparison of two values.
-#[derive(Clone, Copy, Debug, PartialEq, Eq)]
-pub enum CompareKind {
-    Equal,
-    NotEqual,
-    Less,
-    AtMost,
-    Greater,
-    AtLeast,
-}
 
 /// An expression over a row. A column is named by its place in the row, from 0.
 #[derive(Debug, Drop)]

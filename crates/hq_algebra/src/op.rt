@@ -1,10 +1,7 @@
 //! Operators.
 use crate::{Aggregates, Expr, Exprs};
-use hq_value::{Kinds, Sequence};
+use hq_value::{Keys16, Kinds, Sequence};
 use sqlite_items::Boxed;
-
-/// Places of columns, from 0.
-pub type Keys16 = Sequence<u16>;
 
 /// A column by which rows are sorted: in value order, or in its reverse.
 #[derive(Clone, Copy, Debug, PartialEq, Eq)]

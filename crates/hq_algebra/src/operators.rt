@@ -60,7 +60,7 @@ pub fn checked_kinds(alloc: Global, op: &Op) -> Result<Kinds, Misfit>
             input,
         } => {
             let kinds = checked_kinds(alloc, input.get())?;
-            partial(
+            partial_kinds(
                 alloc,
                 keys.as_slice(),
                 aggregates.as_slice(),
@@ -130,8 +130,9 @@ fn joined(
     both(left, right.as_slice())
 }
 
-// The keys, and the columns of the partial aggregates.
-fn partial(
+/// The output kinds of a Partial: the keys, and the columns of the partial aggregates. Wrong exactly where a column is
+/// out of range or a kind does not fit.
+pub fn partial_kinds(
     alloc: Global,
     keys: &[u16],
     aggregates: &[Aggregate],

@@ -5,7 +5,6 @@ ghost use Rattle.hq_algebra.specs.Steps as exact;
 
 use crate::{ArithKind, CompareKind};
 use hq_value::{Value, compare_values};
-use std::cmp::Ordering;
 
 /// A step of arithmetic, or none where it leaves 64 bits.
 pub fn step(kind: ArithKind, left: &Value, right: &Value) -> Option<Value>
@@ -37,20 +36,7 @@ pub fn compared(kind: CompareKind, left: &Value, right: &Value) -> Value
     if is_null(left) || is_null(right) {
         return Value::Null;
     }
-    Value::Bool(passes(kind, compare_values(left, right)))
-}
-
-fn passes(kind: CompareKind, order: Ordering) -> bool
-    ensures { result ≡ exact.passes kind order }
-{
-    match kind {
-        CompareKind::Equal => order.is_eq(),
-        CompareKind::NotEqual => order.is_ne(),
-        CompareKind::Less => order.is_lt(),
-        CompareKind::AtMost => order.is_le(),
-        CompareKind::Greater => order.is_gt(),
-        CompareKind::AtLeast => order.is_ge(),
-    }
+    Value::Bool(kind.passes(compare_values(left, right)))
 }
 
 pub fn is_null(value: &Value) -> bool

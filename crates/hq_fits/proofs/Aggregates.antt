@@ -5,8 +5,8 @@ use Rattle.std.specs.Ordering.{is_gt}
 use Rattle.std.specs.declared.cmp.Ordering.{Ordering}
 use Rattle.hq_value.specs.declared.value.Value.{Value}
 use Rattle.hq_value.specs.declared.value.Value.TheVariants as value
-use Rattle.hq_value.specs.declared.table.Kind.{Kind}
-use Rattle.hq_value.specs.declared.table.Kind.TheVariants as kind
+use Rattle.hq_value.specs.declared.kind.Kind.{Kind}
+use Rattle.hq_value.specs.declared.kind.Kind.TheVariants as kind
 use Rattle.hq_value.specs.Order.{value_cmp}
 use Rattle.hq_algebra.specs.declared.expr.Expr.{Expr}
 use Rattle.hq_algebra.specs.declared.aggregate.Aggregate.{Aggregate}
@@ -14,7 +14,7 @@ use Rattle.hq_algebra.specs.declared.aggregate.Aggregate.TheVariants as agg
 use Rattle.hq_algebra.specs.Eval.{column}
 use Rattle.hq_algebra.specs.Kinds.{◌>>=◌, column_kind, expr_kind, item_kind, some_if, aggregate_kind, partial_columns, layout}
 use Rattle.hq_algebra.specs.Operators.{values_kinds}
-use Rattle.hq_block.specs.Row.{IsOfKind, Fits}
+use Rattle.hq_value.specs.Kinds.{IsOfKind, Fits}
 use Rattle.hq_meaning.specs.Rows.{Row}
 use Rattle.hq_meaning.specs.Aggregates.{added, from_number, sooner, falling_cmp, over, or_zero}
 use Rattle.hq_meaning.specs.Halves.{halves}
@@ -23,7 +23,7 @@ use Rattle.hq_fits.specs.Supplied.{AreFit}
 use Rattle.hq_fits.proofs.Values.{IsTyped, value-typed, item-typed, column-typed}
 use Rattle.hq_fits.proofs.Lists.{fits-append, all-map}
 
-if-int : (b : Bool) (k : Kind) → some_if b kind.Int ≡ Some k → kind.Int ≡ k
+pub if-int : (b : Bool) (k : Kind) → some_if b kind.Int ≡ Some k → kind.Int ≡ k
 if-int true k h = cc
 if-int false k h = cc
 
@@ -32,21 +32,21 @@ from_number-int : (o : Option ℤ) → IsOfKind kind.Int (from_number o)
 from_number-int None = tt
 from_number-int (Some n) = tt
 
-or_zero-int : (v : Value) → IsOfKind kind.Int v → IsOfKind kind.Int (or_zero v)
+pub or_zero-int : (v : Value) → IsOfKind kind.Int v → IsOfKind kind.Int (or_zero v)
 or_zero-int value.Null h = tt
 or_zero-int (value.Int n) h = tt
 or_zero-int (value.Bool b) h = absurd h
 or_zero-int (value.Text s) h = absurd h
 
-all-int : (vs : List Value) → IsOfKind kind.Int (over agg.CountAll vs)
+pub all-int : (vs : List Value) → IsOfKind kind.Int (over agg.CountAll vs)
 all-int [] = tt
 all-int (v ∷ vs) = from_number-int _
 
-count-int : (e : Expr) (vs : List Value) → IsOfKind kind.Int (over (agg.Count e) vs)
+pub count-int : (e : Expr) (vs : List Value) → IsOfKind kind.Int (over (agg.Count e) vs)
 count-int e [] = tt
 count-int e (v ∷ vs) = from_number-int _
 
-sum-int : (e : Expr) (vs : List Value) → IsOfKind kind.Int (over (agg.Sum e) vs)
+pub sum-int : (e : Expr) (vs : List Value) → IsOfKind kind.Int (over (agg.Sum e) vs)
 sum-int e [] = tt
 sum-int e (v ∷ vs) = from_number-int _
 
@@ -61,19 +61,19 @@ sooner-kind R k a b g h = by (is_gt (R a b))
 null-kind : (k : Kind) → IsOfKind k value.Null
 null-kind k = tt
 
-min-kind : (e : Expr) (k : Kind) (vs : List Value) → AllByRecursion (IsOfKind k) vs → IsOfKind k (over (agg.Min e) vs)
+pub min-kind : (e : Expr) (k : Kind) (vs : List Value) → AllByRecursion (IsOfKind k) vs → IsOfKind k (over (agg.Min e) vs)
 min-kind e k [] a = tt
 min-kind e k (v ∷ vs) a = sooner-kind value_cmp k v (over (agg.Min e) vs) a.0 (min-kind e k vs a.1)
 
-max-kind : (e : Expr) (k : Kind) (vs : List Value) → AllByRecursion (IsOfKind k) vs → IsOfKind k (over (agg.Max e) vs)
+pub max-kind : (e : Expr) (k : Kind) (vs : List Value) → AllByRecursion (IsOfKind k) vs → IsOfKind k (over (agg.Max e) vs)
 max-kind e k [] a = tt
 max-kind e k (v ∷ vs) a = sooner-kind falling_cmp k v (over (agg.Max e) vs) a.0 (max-kind e k vs a.1)
 
 module _ (kinds : List Kind) where
-  added-kind : (e : Expr) (k : Kind) → item_kind (expr_kind kinds e) ≡ Some k → (rows : List Row) → AreFit kinds rows → AllByRecursion (IsOfKind k) (map (added (agg.Min e)) rows)
+  pub added-kind : (e : Expr) (k : Kind) → item_kind (expr_kind kinds e) ≡ Some k → (rows : List Row) → AreFit kinds rows → AllByRecursion (IsOfKind k) (map (added (agg.Min e)) rows)
   added-kind e k h rows fit = all-map (IsOfKind k) (Fits kinds) (added (agg.Min e)) (λ row f. item-typed (expr_kind kinds e) k _ h (value-typed kinds row f e)) rows fit
 
-  added-kind_max : (e : Expr) (k : Kind) → item_kind (expr_kind kinds e) ≡ Some k → (rows : List Row) → AreFit kinds rows → AllByRecursion (IsOfKind k) (map (added (agg.Max e)) rows)
+  pub added-kind_max : (e : Expr) (k : Kind) → item_kind (expr_kind kinds e) ≡ Some k → (rows : List Row) → AreFit kinds rows → AllByRecursion (IsOfKind k) (map (added (agg.Max e)) rows)
   added-kind_max e k h rows fit = all-map (IsOfKind k) (Fits kinds) (added (agg.Max e)) (λ row f. item-typed (expr_kind kinds e) k _ h (value-typed kinds row f e)) rows fit
 
   -- the columns of a partial aggregate

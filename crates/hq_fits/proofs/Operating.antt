@@ -3,8 +3,8 @@ use Rattle.std.proofs.Common.{◌≡◌, ℕ, zero, suc, Bool, true, false, ◌&
 use Rattle.std.specs.List.{AllByRecursion, list_all}
 use Rattle.std.proofs.lemmas.List.{take-append-drop}
 use Rattle.hq_value.specs.declared.value.Value.{Value}
-use Rattle.hq_value.specs.declared.table.Kind.{Kind}
-use Rattle.hq_value.specs.declared.table.Kind.TheVariants as kind
+use Rattle.hq_value.specs.declared.kind.Kind.{Kind}
+use Rattle.hq_value.specs.declared.kind.Kind.TheVariants as kind
 use Rattle.hq_algebra.specs.declared.expr.Expr.{Expr}
 use Rattle.hq_algebra.specs.declared.aggregate.Aggregate.{Aggregate}
 use Rattle.hq_algebra.specs.declared.op.Op.{Op, Row_of-Op, end_of-Op, more_of-Op}
@@ -14,7 +14,7 @@ use Rattle.hq_algebra.specs.Eval.{column, value_at, is_true_at}
 use Rattle.hq_algebra.specs.Kinds.{◌>>=◌, every, same_kind, same_kinds, is_of, expr_kind, item_kind, column_kind, some_if, layout}
 use Rattle.hq_algebra.specs.Operators.{keys_kinds, items_kinds, values_kinds, tells_its_kind, filter_kinds, join_kinds, partial_kinds, are_finals, final_kinds, sort_kinds, op_kinds, kinds_of_input}
 use Rattle.hq_algebra.specs.Plans.{operators_in}
-use Rattle.hq_block.specs.Row.{IsOfKind, Fits}
+use Rattle.hq_value.specs.Kinds.{IsOfKind, Fits}
 use Rattle.hq_meaning.specs.Rows.{Row, order_cmp}
 use Rattle.hq_meaning.specs.Aggregates.{added, over}
 use Rattle.hq_meaning.specs.Groups.{key_of, keys_found, group_keys, members}
@@ -31,7 +31,7 @@ both_true false b h = cc
 
 -- what is found of each item
 module _ {A : Type 0} (f : A → Option Kind) (g : A → Value) (own : (x : A) (k : Kind) → f x ≡ Some k → IsOfKind k (g x)) where
-  every-fits : (xs : List A) (ks : List Kind) → every f xs ≡ Some ks → Fits ks (map g xs)
+  pub every-fits : (xs : List A) (ks : List Kind) → every f xs ≡ Some ks → Fits ks (map g xs)
   every-fits [] [] h = tt
   every-fits [] (k ∷ ks) h = cc
   every-fits (x ∷ xs) ks h = by (f x) (every f xs) refl h (λ zs e. every-fits xs zs e)
@@ -47,7 +47,7 @@ key-kind kinds row fit i k h = subst (λ o. IsTyped (column_kind o) (column row 
 key-fits : (kinds : List Kind) (keys : List ℕ) (ks : List Kind) → keys_kinds kinds keys ≡ Some ks → (row : Row) → Fits kinds row → Fits ks (key_of keys row)
 key-fits kinds keys ks h row fit = every-fits (slice_get kinds) (column row) (key-kind kinds row fit) keys ks h
 
-group-keys-fit : (kinds : List Kind) (keys : List ℕ) (ks : List Kind) → keys_kinds kinds keys ≡ Some ks → (rows : List Row) → AreFit kinds rows → AreFit ks (group_keys keys rows)
+pub group-keys-fit : (kinds : List Kind) (keys : List ℕ) (ks : List Kind) → keys_kinds kinds keys ≡ Some ks → (rows : List Row) → AreFit kinds rows → AreFit ks (group_keys keys rows)
 group-keys-fit kinds [] [] h rows fit = (tt, tt)
 group-keys-fit kinds [] (k ∷ ks) h rows fit = cc
 group-keys-fit kinds (key ∷ keys) ks h rows fit = all-firsts (Fits ks) (map (key_of (key ∷ keys)) rows) (all-map (Fits ks) (Fits kinds) (key_of (key ∷ keys)) (key-fits kinds (key ∷ keys) ks h) rows fit)

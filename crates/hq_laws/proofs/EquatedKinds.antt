@@ -1,8 +1,8 @@
 -- Keys that conditions of fitting kinds equate are of the same kinds.
 use Rattle.std.proofs.Common.{◌≡◌, ℕ, zero, suc, ◌+◌, ◌<◌, nat_lt, Bool, true, false, ◌&&◌, ◌||◌, List, [], ◌∷◌, ◌++◌, append_assoc, length, Option, Some, None, is_some, refl, sym, ◌∙◌, ap, arith, slice_get}
 use Rattle.std.specs.List.{list_any}
-use Rattle.hq_value.specs.declared.table.Kind.{Kind}
-use Rattle.hq_value.specs.declared.table.Kind.TheVariants as kind
+use Rattle.hq_value.specs.declared.kind.Kind.{Kind}
+use Rattle.hq_value.specs.declared.kind.Kind.TheVariants as kind
 use Rattle.hq_algebra.specs.declared.expr.Expr.{Expr, Row_of-Expr, end_of-Expr, more_of-Expr}
 use Rattle.hq_algebra.specs.declared.expr.Expr.TheVariants as expr
 use Rattle.hq_algebra.specs.Kinds.{◌>>=◌, same_kind, same_kinds, is_of, are_alike, kind_if, column_kind, expr_kind, kind_in, some_if}
@@ -87,12 +87,12 @@ module _ (kinds : List Kind) where
         let b : (is_of kind.Bool (expr_kind kinds e) ≡ true) × (are_conditions kinds conds ≡ true) = both_true (is_of kind.Bool (expr_kind kinds e)) _ h in
         by_either (either_true (equates i j e) (list_any (equates i j) conds) g) (λ k. equates-same e k b.0) (λ k. any-same conds k b.1)
 
-get-left : (xs ys : List Kind) (i : ℕ) → i < length xs → slice_get (xs ++ ys) i ≡ slice_get xs i
+pub get-left : (xs ys : List Kind) (i : ℕ) → i < length xs → slice_get (xs ++ ys) i ≡ slice_get xs i
 get-left [] ys i h = absurd (omega arith)
 get-left (x ∷ xs) ys zero h = refl
 get-left (x ∷ xs) ys (suc i) h = get-left xs ys i (omega arith)
 
-get-right : (xs ys : List Kind) (j : ℕ) → slice_get (xs ++ ys) (length xs + j) ≡ slice_get ys j
+pub get-right : (xs ys : List Kind) (j : ℕ) → slice_get (xs ++ ys) (length xs + j) ≡ slice_get ys j
 get-right [] ys j = ap (slice_get ys) (zero_add j)
   where
     zero_add : (j : ℕ) → 0 + j ≡ j

@@ -3,8 +3,8 @@ use Rattle.std.proofs.Common.{◌≡◌, ℕ, zero, suc, ◌+◌, ◌<◌, nat_l
 use Rattle.std.specs.List.{list_any, list_all}
 use Rattle.hq_value.specs.declared.value.Value.{Value}
 use Rattle.hq_value.specs.declared.value.Value.TheVariants as value
-use Rattle.hq_algebra.specs.declared.expr.CompareKind.{CompareKind}
-use Rattle.hq_algebra.specs.declared.expr.CompareKind.TheVariants as compare
+use Rattle.hq_value.specs.declared.operator.CompareKind.{CompareKind}
+use Rattle.hq_value.specs.declared.operator.CompareKind.TheVariants as compare
 use Rattle.hq_algebra.specs.declared.expr.Expr.{Expr, Row_of-Expr, end_of-Expr, more_of-Expr}
 use Rattle.hq_algebra.specs.declared.expr.Expr.TheVariants as expr
 use Rattle.hq_algebra.specs.Outcome.{Outcome, Is, Fault, of_two_values}
@@ -37,7 +37,7 @@ meets-sym : (a b : Value) → meets a b ≡ true → meets b a ≡ true
 meets-sym a b h = let e : a ≡ b = meets-equal a b h in (λ i. meets (sym e i) (e i)) ∙ h
 
 -- an AND that is true
-and-true : (o p : Outcome) → is_true (or_null (of_two_values and_of o p)) ≡ true → (is_true (or_null o) ≡ true) × (is_true (or_null p) ≡ true)
+pub and-true : (o p : Outcome) → is_true (or_null (of_two_values and_of o p)) ≡ true → (is_true (or_null o) ≡ true) × (is_true (or_null p) ≡ true)
 and-true Fault p h = cc
 and-true (Is a) Fault h = cc
 and-true (Is a) (Is b) h = by a b h
@@ -130,12 +130,12 @@ module _ (i j : ℕ) (row : Row) where
       by_either (either_true (equates i j e) (list_any (equates i j) conds) g) (λ k. equates-meets e k b.0) (λ k. any-meets conds k b.1)
 
 -- columns of a row that is made of others
-column-left : (l rest : Row) (i : ℕ) → i < length l → column (l ++ rest) i ≡ column l i
+pub column-left : (l rest : Row) (i : ℕ) → i < length l → column (l ++ rest) i ≡ column l i
 column-left [] rest i h = absurd (omega arith)
 column-left (x ∷ l) rest zero h = refl
 column-left (x ∷ l) rest (suc i) h = column-left l rest i (omega arith)
 
-column-right : (l rest : Row) (j : ℕ) → column (l ++ rest) (length l + j) ≡ column rest j
+pub column-right : (l rest : Row) (j : ℕ) → column (l ++ rest) (length l + j) ≡ column rest j
 column-right [] rest j = ap (column rest) (zero_add j)
   where
     zero_add : (j : ℕ) → 0 + j ≡ j

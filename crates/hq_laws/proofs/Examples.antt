@@ -2,10 +2,10 @@
 use Rattle.std.proofs.Common.{suc, Some, ◌≡◌, ◌≢◌, ℕ, zero, ◌==◌, List, [], ◌∷◌, filter, pos, true, false, None, refl, arith}
 use Rattle.hq_value.specs.declared.value.Value.{Value}
 use Rattle.hq_value.specs.declared.value.Value.TheVariants as value
-use Rattle.hq_value.specs.declared.table.Kind.{Kind}
-use Rattle.hq_value.specs.declared.table.Kind.TheVariants as kind
+use Rattle.hq_value.specs.declared.kind.Kind.{Kind}
+use Rattle.hq_value.specs.declared.kind.Kind.TheVariants as kind
 use Rattle.hq_value.specs.Bucket.{bucket_of}
-use Rattle.hq_algebra.specs.declared.expr.CompareKind.TheVariants as compare
+use Rattle.hq_value.specs.declared.operator.CompareKind.TheVariants as compare
 use Rattle.hq_algebra.specs.declared.expr.Expr.{Expr}
 use Rattle.hq_algebra.specs.declared.expr.Expr.TheVariants as e
 use Rattle.hq_algebra.specs.declared.aggregate.Aggregate.TheVariants as agg
@@ -21,38 +21,44 @@ use Rattle.hq_algebra.specs.Queries.{query_kinds}
 use Rattle.hq_meaning.specs.Rows.{Row}
 use Rattle.hq_meaning.specs.Mean.{Rows}
 use Rattle.hq_meaning.specs.Plans.{Parts, plan_mean}
+use Rattle.hq_laws.specs.Sources.{Source}
 use Rattle.hq_laws.specs.Gathered.{gathered_plan}
 use Rattle.hq_laws.specs.Equated.{keys_equated}
-use Rattle.hq_laws.specs.Room.{has_room, kinds_sent, are_joinable}
+use Rattle.hq_algebra.specs.Bound.{has_room, has_places}
+use Rattle.hq_laws.specs.Room.{kinds_sent, are_joinable}
 use Rattle.hq_laws.specs.Spread.{Way, CopyRight, CopyLeft, MoveBoth, MoveLeft, spread_plan}
 
-int : ℕ → Value
+-- a source without tests
+unfoldable pub plain : ℕ → Source
+plain t = record { table = t; tests = [] }
+
+unfoldable pub int : ℕ → Value
 int n = value.Int (pos n)
 
 -- nodes 0, 1 and 2 in turn
-three : List ℕ
+unfoldable pub three : List ℕ
 three = 0 ∷ 1 ∷ 2 ∷ 0 ∷ 1 ∷ 2 ∷ 0 ∷ 1 ∷ 2 ∷ 0 ∷ 1 ∷ 2 ∷ 0 ∷ 1 ∷ 2 ∷ 0 ∷ []
 
 -- u (id, g) and v (k, g), by the bucket of their columns at these places
-uv : ℕ → List Row
+unfoldable pub uv : ℕ → List Row
 uv zero = (int 1 ∷ int 10 ∷ []) ∷ (int 2 ∷ int 20 ∷ []) ∷ (int 3 ∷ int 10 ∷ []) ∷ []
 uv _ = (int 7 ∷ int 10 ∷ []) ∷ (int 8 ∷ int 20 ∷ []) ∷ (int 9 ∷ int 10 ∷ []) ∷ []
 
-by_columns : List ℕ → Parts
+unfoldable pub by_columns : List ℕ → Parts
 by_columns keys t b = filter (λ row. bucket_of row keys == b) (uv t)
 
-numbers : ℕ → List Kind
+unfoldable pub numbers : ℕ → List Kind
 numbers t = kind.Int ∷ kind.Int ∷ []
 
-four : List Kind
+unfoldable pub four : List Kind
 four = kind.Int ∷ kind.Int ∷ kind.Int ∷ kind.Int ∷ []
 
-same_group : Expr
+unfoldable pub same_group : Expr
 same_group = e.Compare compare.Equal (e.Column 1) (e.Column 3)
 
 -- SELECT u.id, v.k FROM u JOIN v ON u.g = v.g
-met : Query
-unfolding same_group hidden-the_row-Expr-0 hidden
+unfoldable pub met : Query
+unfolding plain same_group hidden-the_row-Expr-0 hidden
 met = record {
   sources = 0 ∷ 1 ∷ [];
   conds = same_group ∷ [];
@@ -79,79 +85,83 @@ met = record {
 
 -- the condition equates the columns g, and not the others
 equated : keys_equated 2 2 (same_group ∷ []) (1 ∷ []) (1 ∷ []) ≡ true
-unfolding same_group hidden-the_row-Expr-0 hidden
+unfolding plain same_group hidden-the_row-Expr-0 hidden
 equated = refl
 
 equated-not_others : keys_equated 2 2 (same_group ∷ []) (0 ∷ []) (1 ∷ []) ≡ false
-unfolding same_group hidden-the_row-Expr-0 hidden
+unfolding plain same_group hidden-the_row-Expr-0 hidden
 equated-not_others = refl
 
-met_by : List ℕ → Way → Plan
-met_by keys way = spread_plan numbers four met 0 ((record { table = 1; left_keys = keys; right_keys = keys; way = way }) ∷ [])
+unfoldable pub met_by : List ℕ → Way → Plan
+met_by keys way = spread_plan numbers four met (plain 0) ((record { table = 1; tests = []; left_keys = keys; right_keys = keys; way = way }) ∷ [])
 
-gathered-means : plan_mean (gathered_plan numbers met) (by_columns (0 ∷ [])) three ≡ Rows ((int 1 ∷ int 7 ∷ []) ∷ (int 1 ∷ int 9 ∷ []) ∷ (int 2 ∷ int 8 ∷ []) ∷ (int 3 ∷ int 7 ∷ []) ∷ (int 3 ∷ int 9 ∷ []) ∷ [])
-unfolding met numbers by_columns uv three int same_group hidden-the_row-Expr-0 hidden-the_row-Op-0 hidden
+gathered-means : plan_mean (gathered_plan numbers met (plain 0 ∷ plain 1 ∷ [])) (by_columns (0 ∷ [])) three ≡ Rows ((int 1 ∷ int 7 ∷ []) ∷ (int 1 ∷ int 9 ∷ []) ∷ (int 2 ∷ int 8 ∷ []) ∷ (int 3 ∷ int 7 ∷ []) ∷ (int 3 ∷ int 9 ∷ []) ∷ [])
+unfolding plain met numbers by_columns uv three int same_group hidden-the_row-Expr-0 hidden-the_row-Op-0 hidden
 gathered-means = refl
 
 copied_right-means : plan_mean (met_by (1 ∷ []) CopyRight) (by_columns (0 ∷ [])) three ≡ Rows ((int 1 ∷ int 7 ∷ []) ∷ (int 1 ∷ int 9 ∷ []) ∷ (int 2 ∷ int 8 ∷ []) ∷ (int 3 ∷ int 7 ∷ []) ∷ (int 3 ∷ int 9 ∷ []) ∷ [])
-unfolding met_by met numbers four by_columns uv three int same_group hidden-the_row-Expr-0 hidden-the_row-Op-0 hidden
+unfolding plain met_by met numbers four by_columns uv three int same_group hidden-the_row-Expr-0 hidden-the_row-Op-0 hidden
 copied_right-means = refl
 
 copied_left-means : plan_mean (met_by (1 ∷ []) CopyLeft) (by_columns (0 ∷ [])) three ≡ Rows ((int 1 ∷ int 7 ∷ []) ∷ (int 1 ∷ int 9 ∷ []) ∷ (int 2 ∷ int 8 ∷ []) ∷ (int 3 ∷ int 7 ∷ []) ∷ (int 3 ∷ int 9 ∷ []) ∷ [])
-unfolding met_by met numbers four by_columns uv three int same_group hidden-the_row-Expr-0 hidden-the_row-Op-0 hidden
+unfolding plain met_by met numbers four by_columns uv three int same_group hidden-the_row-Expr-0 hidden-the_row-Op-0 hidden
 copied_left-means = refl
 
 moved_both-means : plan_mean (met_by (1 ∷ []) MoveBoth) (by_columns (0 ∷ [])) three ≡ Rows ((int 1 ∷ int 7 ∷ []) ∷ (int 1 ∷ int 9 ∷ []) ∷ (int 2 ∷ int 8 ∷ []) ∷ (int 3 ∷ int 7 ∷ []) ∷ (int 3 ∷ int 9 ∷ []) ∷ [])
-unfolding met_by met numbers four by_columns uv three int same_group hidden-the_row-Expr-0 hidden-the_row-Op-0 hidden
+unfolding plain met_by met numbers four by_columns uv three int same_group hidden-the_row-Expr-0 hidden-the_row-Op-0 hidden
 moved_both-means = refl
 
 moved_left-means : plan_mean (met_by (1 ∷ []) MoveLeft) (by_columns (1 ∷ [])) three ≡ Rows ((int 1 ∷ int 7 ∷ []) ∷ (int 1 ∷ int 9 ∷ []) ∷ (int 2 ∷ int 8 ∷ []) ∷ (int 3 ∷ int 7 ∷ []) ∷ (int 3 ∷ int 9 ∷ []) ∷ [])
-unfolding met_by met numbers four by_columns uv three int same_group hidden-the_row-Expr-0 hidden-the_row-Op-0 hidden
+unfolding plain met_by met numbers four by_columns uv three int same_group hidden-the_row-Expr-0 hidden-the_row-Op-0 hidden
 moved_left-means = refl
 
 -- where v stands by another column, partners miss each other
 moved_left-elsewhere : plan_mean (met_by (1 ∷ []) MoveLeft) (by_columns (0 ∷ [])) three ≢ Rows ((int 1 ∷ int 7 ∷ []) ∷ (int 1 ∷ int 9 ∷ []) ∷ (int 2 ∷ int 8 ∷ []) ∷ (int 3 ∷ int 7 ∷ []) ∷ (int 3 ∷ int 9 ∷ []) ∷ [])
-unfolding met_by met numbers four by_columns uv three int same_group hidden-the_row-Expr-0 hidden-the_row-Op-0 hidden
+unfolding plain met_by met numbers four by_columns uv three int same_group hidden-the_row-Expr-0 hidden-the_row-Op-0 hidden
 moved_left-elsewhere e = cc
 
 -- keys that no condition equates lose pairs
 other_keys : plan_mean (met_by (0 ∷ []) MoveBoth) (by_columns (0 ∷ [])) three ≢ Rows ((int 1 ∷ int 7 ∷ []) ∷ (int 1 ∷ int 9 ∷ []) ∷ (int 2 ∷ int 8 ∷ []) ∷ (int 3 ∷ int 7 ∷ []) ∷ (int 3 ∷ int 9 ∷ []) ∷ [])
-unfolding met_by met numbers four by_columns uv three int same_group hidden-the_row-Expr-0 hidden-the_row-Op-0 hidden
+unfolding plain met_by met numbers four by_columns uv three int same_group hidden-the_row-Expr-0 hidden-the_row-Op-0 hidden
 other_keys e = cc
 
 -- what the laws of well-formed plans ask for
 met-kinds : query_kinds numbers met ≡ Some (kind.Int ∷ kind.Int ∷ [])
-unfolding met numbers same_group hidden-the_row-Expr-0 hidden
+unfolding plain met numbers same_group hidden-the_row-Expr-0 hidden
 met-kinds = refl
 
 met-has_room : has_room numbers met ≡ true
-unfolding met numbers same_group
+unfolding plain met numbers same_group
 met-has_room = refl
 
+met-has_places : has_places met ≡ true
+unfolding met numbers same_group
+met-has_places = refl
+
 met-sent : kinds_sent numbers met ≡ Some four
-unfolding met numbers four
+unfolding plain met numbers four
 met-sent = refl
 
-met-joinable : are_joinable numbers (numbers 0) ((record { table = 1; left_keys = 1 ∷ []; right_keys = 1 ∷ []; way = MoveBoth }) ∷ []) ≡ true
-unfolding numbers
+met-joinable : are_joinable numbers (numbers 0) ((record { table = 1; tests = []; left_keys = 1 ∷ []; right_keys = 1 ∷ []; way = MoveBoth }) ∷ []) ≡ true
+unfolding plain numbers
 met-joinable = refl
 
-met-not_joinable_without_keys : are_joinable numbers (numbers 0) ((record { table = 1; left_keys = []; right_keys = []; way = MoveBoth }) ∷ []) ≡ false
-unfolding numbers
+met-not_joinable_without_keys : are_joinable numbers (numbers 0) ((record { table = 1; tests = []; left_keys = []; right_keys = []; way = MoveBoth }) ∷ []) ≡ false
+unfolding plain numbers
 met-not_joinable_without_keys = refl
 
 -- both plans are well formed
-gathered-well_formed : is_well_formed (gathered_plan numbers met) ≡ true
-unfolding met numbers same_group hidden-the_row-Expr-0 hidden-the_row-Op-0 hidden
+gathered-well_formed : is_well_formed (gathered_plan numbers met (plain 0 ∷ plain 1 ∷ [])) ≡ true
+unfolding plain met numbers same_group hidden-the_row-Expr-0 hidden-the_row-Op-0 hidden
 gathered-well_formed = refl
 
 moved_both-well_formed : is_well_formed (met_by (1 ∷ []) MoveBoth) ≡ true
-unfolding met_by met numbers four same_group hidden-the_row-Expr-0 hidden-the_row-Op-0 hidden
+unfolding plain met_by met numbers four same_group hidden-the_row-Expr-0 hidden-the_row-Op-0 hidden
 moved_both-well_formed = refl
 
 -- SELECT g, COUNT(*), MIN(k) FROM v GROUP BY g
 totals : Query
-unfolding hidden-the_row-Expr-0 hidden
+unfolding plain hidden-the_row-Expr-0 hidden
 totals = record {
   sources = 1 ∷ [];
   conds = [];
@@ -180,25 +190,25 @@ totals = record {
 three_kinds : List Kind
 three_kinds = kind.Int ∷ kind.Int ∷ kind.Int ∷ []
 
-totals-plan : spread_plan numbers three_kinds totals 1 [] ≡ record {
+totals-plan : spread_plan numbers three_kinds totals (plain 1) [] ≡ record {
   slices =
       (record { out = motion.Gather; root = op.Partial (1 ∷ []) (agg.CountAll ∷ agg.Min (e.Column 0) ∷ []) (op.Scan 1 (kind.Int ∷ kind.Int ∷ [])) })
       ∷ (record { out = motion.Result; root = op.Sort [] None (op.Project (e.Column 0 ∷ e.Column 1 ∷ e.Column 2 ∷ []) (op.Final 1 (agg.CountAll ∷ agg.Min (e.Column 2) ∷ []) (op.Receive 0 three_kinds))) }) ∷ [];
 }
-unfolding totals numbers three_kinds
+unfolding plain totals numbers three_kinds
 totals-plan = refl
 
-totals-mean : plan_mean (spread_plan numbers three_kinds totals 1 []) (by_columns (0 ∷ [])) three ≡ Rows ((int 10 ∷ int 2 ∷ int 7 ∷ []) ∷ (int 20 ∷ int 1 ∷ int 8 ∷ []) ∷ [])
-unfolding totals numbers three_kinds by_columns uv three int hidden-the_row-Expr-0 hidden-the_row-Op-0 hidden
+totals-mean : plan_mean (spread_plan numbers three_kinds totals (plain 1) []) (by_columns (0 ∷ [])) three ≡ Rows ((int 10 ∷ int 2 ∷ int 7 ∷ []) ∷ (int 20 ∷ int 1 ∷ int 8 ∷ []) ∷ [])
+unfolding plain totals numbers three_kinds by_columns uv three int hidden-the_row-Expr-0 hidden-the_row-Op-0 hidden
 totals-mean = refl
 
 -- the nodes' counts are added, not counted
-totals-not_counted : plan_mean (spread_plan numbers three_kinds totals 1 []) (by_columns (0 ∷ [])) three ≢ Rows ((int 10 ∷ int 1 ∷ int 7 ∷ []) ∷ (int 20 ∷ int 1 ∷ int 8 ∷ []) ∷ [])
-unfolding totals numbers three_kinds by_columns uv three int hidden-the_row-Expr-0 hidden-the_row-Op-0 hidden
+totals-not_counted : plan_mean (spread_plan numbers three_kinds totals (plain 1) []) (by_columns (0 ∷ [])) three ≢ Rows ((int 10 ∷ int 1 ∷ int 7 ∷ []) ∷ (int 20 ∷ int 1 ∷ int 8 ∷ []) ∷ [])
+unfolding plain totals numbers three_kinds by_columns uv three int hidden-the_row-Expr-0 hidden-the_row-Op-0 hidden
 totals-not_counted e = cc
 
-totals-well_formed : is_well_formed (spread_plan numbers three_kinds totals 1 []) ≡ true
-unfolding totals numbers three_kinds hidden-the_row-Expr-0 hidden-the_row-Op-0 hidden
+totals-well_formed : is_well_formed (spread_plan numbers three_kinds totals (plain 1) []) ≡ true
+unfolding plain totals numbers three_kinds hidden-the_row-Expr-0 hidden-the_row-Op-0 hidden
 totals-well_formed = refl
 
 text : ℕ → Value
@@ -220,7 +230,7 @@ shop_kinds _ = kind.Int ∷ kind.Text ∷ []
 -- SELECT s.city, SUM(x.amount) AS total FROM sale x JOIN shop s ON x.shop = s.id WHERE x.day >= 20240102
 -- GROUP BY s.city HAVING SUM(x.amount) > 10 ORDER BY total DESC LIMIT 10
 cities : Query
-unfolding int hidden-the_row-Expr-0 hidden
+unfolding plain int hidden-the_row-Expr-0 hidden
 cities = record {
   sources = 0 ∷ 1 ∷ [];
   conds = e.Compare compare.Equal (e.Column 0) (e.Column 3) ∷ e.Compare compare.AtLeast (e.Column 1) (e.Literal (int 20240102)) ∷ [];
@@ -250,19 +260,19 @@ city_kinds = kind.Text ∷ kind.Int ∷ kind.Int ∷ []
 
 -- the sales go to the nodes where their shops stand, and each node sums what it has
 cities_plan : Plan
-cities_plan = spread_plan shop_kinds city_kinds cities 0 ((record { table = 1; left_keys = 0 ∷ []; right_keys = 0 ∷ []; way = MoveLeft }) ∷ [])
+cities_plan = spread_plan shop_kinds city_kinds cities (plain 0) ((record { table = 1; tests = []; left_keys = 0 ∷ []; right_keys = 0 ∷ []; way = MoveLeft }) ∷ [])
 
 cities-means : plan_mean cities_plan shops three ≡ Rows ((text 79 ∷ int 75 ∷ []) ∷ (text 82 ∷ int 70 ∷ []) ∷ [])
-unfolding cities_plan cities shop_kinds city_kinds shops three text int hidden-the_row-Expr-0 hidden-the_row-Op-0 hidden
+unfolding plain cities_plan cities shop_kinds city_kinds shops three text int hidden-the_row-Expr-0 hidden-the_row-Op-0 hidden
 cities-means = refl
 
 cities-well_formed : is_well_formed cities_plan ≡ true
-unfolding cities_plan cities shop_kinds city_kinds int hidden-the_row-Expr-0 hidden-the_row-Op-0 hidden
+unfolding plain cities_plan cities shop_kinds city_kinds int hidden-the_row-Expr-0 hidden-the_row-Op-0 hidden
 cities-well_formed = refl
 
 -- SELECT x.id, z.k FROM u x JOIN u y ON x.g = y.g JOIN v z ON y.g = z.g
 chain : Query
-unfolding hidden-the_row-Expr-0 hidden
+unfolding plain hidden-the_row-Expr-0 hidden
 chain = record {
   sources = 0 ∷ 0 ∷ 1 ∷ [];
   conds = e.Compare compare.Equal (e.Column 1) (e.Column 3) ∷ e.Compare compare.Equal (e.Column 3) (e.Column 5) ∷ [];
@@ -288,13 +298,13 @@ chain = record {
 }
 
 chain_plan : Plan
-chain_plan = spread_plan numbers (kind.Int ∷ kind.Int ∷ kind.Int ∷ kind.Int ∷ kind.Int ∷ kind.Int ∷ []) chain 0
-    ((record { table = 0; left_keys = 1 ∷ []; right_keys = 1 ∷ []; way = MoveBoth }) ∷ (record { table = 1; left_keys = 3 ∷ []; right_keys = 1 ∷ []; way = CopyLeft }) ∷ [])
+chain_plan = spread_plan numbers (kind.Int ∷ kind.Int ∷ kind.Int ∷ kind.Int ∷ kind.Int ∷ kind.Int ∷ []) chain (plain 0)
+    ((record { table = 0; tests = []; left_keys = 1 ∷ []; right_keys = 1 ∷ []; way = MoveBoth }) ∷ (record { table = 1; tests = []; left_keys = 3 ∷ []; right_keys = 1 ∷ []; way = CopyLeft }) ∷ [])
 
 chain-means : plan_mean chain_plan (by_columns (0 ∷ [])) three ≡ Rows ((int 1 ∷ int 7 ∷ []) ∷ (int 1 ∷ int 9 ∷ []) ∷ (int 2 ∷ int 8 ∷ []) ∷ (int 3 ∷ int 7 ∷ []) ∷ (int 3 ∷ int 9 ∷ []) ∷ [])
-unfolding chain_plan chain numbers by_columns uv three int hidden-the_row-Expr-0 hidden-the_row-Op-0 hidden
+unfolding plain chain_plan chain numbers by_columns uv three int hidden-the_row-Expr-0 hidden-the_row-Op-0 hidden
 chain-means = refl
 
 chain-well_formed : is_well_formed chain_plan ≡ true
-unfolding chain_plan chain numbers hidden-the_row-Expr-0 hidden-the_row-Op-0 hidden
+unfolding plain chain_plan chain numbers hidden-the_row-Expr-0 hidden-the_row-Op-0 hidden
 chain-well_formed = refl

@@ -4,7 +4,7 @@ use Rattle.std.specs.Option.{option_map_or}
 use Rattle.std.specs.List.{list_any, list_all, range_with_len}
 use Rattle.std.proofs.lemmas.List.{append-nil, length-map}
 use Rattle.std.proofs.lemmas.List.Folds.{list_all-append}
-use Rattle.hq_value.specs.declared.table.Kind.{Kind}
+use Rattle.hq_value.specs.declared.kind.Kind.{Kind}
 use Rattle.hq_algebra.specs.declared.aggregate.Aggregate.{Aggregate}
 use Rattle.hq_algebra.specs.declared.aggregate.Aggregate.TheVariants as agg
 use Rattle.hq_algebra.specs.declared.op.Op.{Op}
@@ -23,14 +23,17 @@ use Rattle.hq_algebra.specs.Plans.{operators, received, is_short, is_join, op_is
 use Rattle.hq_meaning.specs.Operators.{width}
 use Rattle.hq_meaning.specs.Slices.{receives}
 use Rattle.hq_laws.specs.Stages.{filters, partial_op, final_aggregate, final_aggregates, final_op, tail_op, sending}
-use Rattle.hq_laws.specs.Gathered.{product_from, product_op, rest_op, scan_slice, gathered_plan}
-use Rattle.hq_laws.specs.Room.{is_table, are_few, has_room}
+use Rattle.hq_laws.specs.Gathered.{product_from, product_op, rest_op, scan_slice, tables_of, gathered_plan}
+use Rattle.hq_laws.specs.Sources.{Source, source_op, fits_filter, fit_filters}
+use Rattle.hq_algebra.specs.Bound.{is_table, are_few, has_room}
 use Rattle.std.specs.List.{AllByRecursion}
 use Rattle.hq_laws.proofs.Lists.{occurs, or_true, both_true}
 use Rattle.hq_laws.proofs.Owners.{once-from}
 use Rattle.hq_laws.proofs.Regroup.{flat_map-append}
 use Rattle.hq_laws.proofs.Chains.{AllByRecursion-append}
 use Rattle.hq_laws.proofs.Gathering.{rest-receives}
+use Rattle.hq_laws.proofs.Sourcing.{source-kinds, source-receives}
+use Rattle.hq_laws.proofs.SpreadForm.{source-fits, source-slice, source-pairs, source-no_join}
 use Rattle.hq_laws.proofs.Typing.{Seen, seen-from, all_same_themselves, filters-kinds, final-kinds, tail-kinds}
 use Rattle.hq_laws.proofs.Fitness.{Pass, every-filter, Ignores, through-partial, through-tail, filters-pass, partial-pass, final-pass, tail-pass, filters-count, partial-count, final-count, tail-count, conds-fine, partial-fine, final-fine, tail-fine}
 use Rattle.hq_laws.proofs.Shapes.{result-push, fit-append, gather-push, any-received, all_received, received-once, all-operators, none-any, alone}
@@ -120,39 +123,57 @@ module _ (kinds : ℕ → List Kind) where
       next : (i : ℕ) → suc i ≡ i + 1
       next i = omega arith
 
-  scans-out : (ts : List ℕ) → AllByRecursion (λ (s : Slice). is_result s.out ≡ false) (map (scan_slice kinds) ts)
+  scans-out : (ss : List Source) → AllByRecursion (λ (s : Slice). is_result s.out ≡ false) (map (scan_slice kinds) ss)
   scans-out [] = tt
-  scans-out (t ∷ ts) = (refl, scans-out ts)
-
-  scans-fit : (before : List Slice) (ts : List ℕ) → fit_in_order before (map (scan_slice kinds) ts) ≡ true
-  scans-fit before [] = refl
-  scans-fit before (t ∷ ts) = scans-fit (before ++ scan_slice kinds t ∷ []) ts
-
-  scans-move : (ts : List ℕ) → list_all motion_is_fine (map (scan_slice kinds) ts) ≡ true
-  scans-move [] = refl
-  scans-move (t ∷ ts) = scans-move ts
-
-  scans-receive : (ts : List ℕ) → all_received (map (scan_slice kinds) ts) ≡ []
-  scans-receive [] = refl
-  scans-receive (t ∷ ts) = scans-receive ts
-
-  scans-operators : (p : Op → Bool) → ((t : ℕ) → p (op.Scan t (kinds t)) ≡ true) → (ts : List ℕ) → AllByRecursion (λ (s : Slice). list_all p (operators s.root) ≡ true) (map (scan_slice kinds) ts)
-  scans-operators p h [] = tt
-  scans-operators p h (t ∷ ts) = ((λ i. h t i && true), scans-operators p h ts)
+  scans-out (s ∷ ss) = (refl, scans-out ss)
 
   short : (n : ℕ) → nat_le n 64 ≡ true → nat_le n 65535 ≡ true
   short n h = grind arith
 
-  scans-fine : (ts : List ℕ) → list_all (λ t. is_table (kinds t)) ts ≡ true → list_all slice_is_fine (map (scan_slice kinds) ts) ≡ true
-  scans-fine [] h = refl
-  scans-fine (t ∷ ts) h =
-      let a : (is_table (kinds t) ≡ true) × (list_all (λ t. is_table (kinds t)) ts ≡ true) = both_true (is_table (kinds t)) _ h in
-      let b : (nat_le 1 (length (kinds t)) ≡ true) × (nat_le (length (kinds t)) 64 ≡ true) = both_true (nat_le 1 (length (kinds t))) _ a.0 in
-      λ i. ((short (length (kinds t)) b.1 i && true) && true) && scans-fine ts a.1 i
+  scans-fit : (before : List Slice) (ss : List Source) → fit_filters kinds ss ≡ true → fit_in_order before (map (scan_slice kinds) ss) ≡ true
+  scans-fit before [] h = refl
+  scans-fit before (s ∷ ss) h =
+      let b : (fits_filter (kinds s.table) s.tests ≡ true) × (fit_filters kinds ss ≡ true) = both_true (fits_filter (kinds s.table) s.tests) (fit_filters kinds ss) h in
+      λ i. source-fits kinds s.table s.tests b.0 before motion.Gather i && scans-fit (before ++ scan_slice kinds s ∷ []) ss b.1 i
 
-  place : (done : List ℕ) (t : ℕ) (rest : List ℕ) → slice_get (map (scan_slice kinds) (done ++ t ∷ rest)) (length done) ≡ Some (scan_slice kinds t)
-  place [] t rest = refl
-  place (d ∷ done) t rest = place done t rest
+  scans-move : (ss : List Source) → list_all motion_is_fine (map (scan_slice kinds) ss) ≡ true
+  scans-move [] = refl
+  scans-move (s ∷ ss) = scans-move ss
+
+  scans-receive : (ss : List Source) → all_received (map (scan_slice kinds) ss) ≡ []
+  scans-receive [] = refl
+  scans-receive (s ∷ ss) = λ i. source-receives kinds s.table s.tests i ++ scans-receive ss i
+
+  scans-operators : (p : Op → Bool) → ((s : Source) → fits_filter (kinds s.table) s.tests ≡ true → Pass p (source_op kinds s.table s.tests)) → (ss : List Source) → fit_filters kinds ss ≡ true → AllByRecursion (λ (s : Slice). list_all p (operators s.root) ≡ true) (map (scan_slice kinds) ss)
+  scans-operators p h [] g = tt
+  scans-operators p h (s ∷ ss) g =
+      let b : (fits_filter (kinds s.table) s.tests ≡ true) × (fit_filters kinds ss ≡ true) = both_true (fits_filter (kinds s.table) s.tests) (fit_filters kinds ss) g in
+      (h s b.0, scans-operators p h ss b.1)
+
+  scans-fine : (ss : List Source) → list_all (λ t. is_table (kinds t)) (tables_of ss) ≡ true → fit_filters kinds ss ≡ true → list_all slice_is_fine (map (scan_slice kinds) ss) ≡ true
+  scans-fine [] h g = refl
+  scans-fine (s ∷ ss) h g =
+      let a : (is_table (kinds s.table) ≡ true) × (list_all (λ t. is_table (kinds t)) (tables_of ss) ≡ true) = both_true (is_table (kinds s.table)) _ h in
+      let b : (nat_le 1 (length (kinds s.table)) ≡ true) × (nat_le (length (kinds s.table)) 64 ≡ true) = both_true (nat_le 1 (length (kinds s.table))) _ a.0 in
+      let c : (fits_filter (kinds s.table) s.tests ≡ true) × (fit_filters kinds ss ≡ true) = both_true (fits_filter (kinds s.table) s.tests) (fit_filters kinds ss) g in
+      λ i. source-slice kinds s.table s.tests c.0 motion.Gather (short (length (kinds s.table)) b.1) i && scans-fine ss a.1 c.1 i
+
+  -- the slice at the place of a source
+  scan-kinds : (ss : List Source) → fit_filters kinds ss ≡ true → (done : List ℕ) (t : ℕ) (rest : List ℕ) → tables_of ss ≡ done ++ t ∷ rest → (slice_get (map (scan_slice kinds) ss) (length done) >>= (λ s. op_kinds s.root)) ≡ Some (kinds t)
+  scan-kinds [] g [] t rest e = cc
+  scan-kinds [] g (d ∷ done) t rest e = cc
+  scan-kinds (s ∷ ss) g [] t rest e =
+      let b : (fits_filter (kinds s.table) s.tests ≡ true) × (fit_filters kinds ss ≡ true) = both_true (fits_filter (kinds s.table) s.tests) (fit_filters kinds ss) g in
+      let u : s.table ≡ t = cc in source-kinds kinds s.table s.tests b.0 ∙ ap (λ t. Some (kinds t)) u
+  scan-kinds (s ∷ ss) g (d ∷ done) t rest e =
+      let b : (fits_filter (kinds s.table) s.tests ≡ true) × (fit_filters kinds ss ≡ true) = both_true (fits_filter (kinds s.table) s.tests) (fit_filters kinds ss) g in
+      let u : tables_of ss ≡ done ++ t ∷ rest = cc in scan-kinds ss b.1 done t rest u
+
+  scan-gathers : (ss : List Source) (done : List ℕ) (t : ℕ) (rest : List ℕ) → tables_of ss ≡ done ++ t ∷ rest → gather_of (slice_get (map (scan_slice kinds) ss) (length done)) ≡ true
+  scan-gathers [] [] t rest e = cc
+  scan-gathers [] (d ∷ done) t rest e = cc
+  scan-gathers (s ∷ ss) [] t rest e = refl
+  scan-gathers (s ∷ ss) (d ∷ done) t rest e = let u : tables_of ss ≡ done ++ t ∷ rest = cc in scan-gathers ss done t rest u
 
   some-kinds : (ks : List Kind) → nat_le 1 (length ks) ≡ true → not (is_empty ks) ≡ true
   some-kinds [] h = let u : false ≡ true = none 0 h in cc
@@ -166,12 +187,18 @@ module _ (kinds : ℕ → List Kind) where
   table-at (d ∷ done) t rest h = table-at done t rest (both_true (is_table (kinds d)) _ h).1
 
   module _ (q : Query) (out : List Kind) (fits : query_kinds kinds q ≡ Some out) (few : are_few q ≡ true) (groups : is_short q.groups ≡ true) (aggregates : is_short q.aggregates ≡ true) (order : is_short q.order ≡ true)
-      (t : ℕ) (ts : List ℕ) (sources : q.sources ≡ t ∷ ts) (tables : list_all (λ t. is_table (kinds t)) (t ∷ ts) ≡ true) where
+      (s : Source) (us : List Source) (sources : q.sources ≡ tables_of (s ∷ us)) (tables : list_all (λ t. is_table (kinds t)) (tables_of (s ∷ us)) ≡ true) (filter : fit_filters kinds (s ∷ us) ≡ true) where
+    abbrev t : ℕ
+    t = s.table
+
+    abbrev ts : List ℕ
+    ts = tables_of us
+
     abbrev all : List ℕ
     all = t ∷ ts
 
     abbrev scans : List Slice
-    scans = map (scan_slice kinds) all
+    scans = map (scan_slice kinds) (s ∷ us)
 
     abbrev root : Op
     root = rest_op q (product_op kinds all)
@@ -192,7 +219,7 @@ module _ (kinds : ℕ → List Kind) where
     few-operators = count _ _ _ _ _ _ _ (tail-count q (final_op q (partial_op q (filters q.conds (product_op kinds all))))) (final-count q (partial_op q (filters q.conds (product_op kinds all)))) (partial-count q (filters q.conds (product_op kinds all)))
         (filters-count q.conds (product_op kinds all)) (from-count (op.Receive 0 (kinds t)) 1 ts) few (subst (λ ss. length ss ≤ 8) sources q.few_sources)
       where
-        count : (c h p f g s n : ℕ) → n ≤ h + f + 3 → f ≤ suc g → g ≤ suc s → s ≡ c + p → p ≡ 1 + (length ts + length ts) → nat_le (c + h) 44 ≡ true → suc (length ts) ≤ 8 → nat_le n 64 ≡ true
+        count : (c h p f g s n : ℕ) → n ≤ h + f + 3 → f ≤ suc g → g ≤ suc s → s ≡ c + p → p ≡ 1 + (length ts + length ts) → nat_le (c + h) 40 ≡ true → suc (length ts) ≤ 8 → nat_le n 64 ≡ true
         count c h p f g s n a b d e k l m = grind arith
 
     receive-fine : (done : List ℕ) (u : ℕ) (rest : List ℕ) → all ≡ done ++ u ∷ rest → op_is_fine (op.Receive (length done) (kinds u)) ≡ true
@@ -223,7 +250,7 @@ module _ (kinds : ℕ → List Kind) where
         own : (done : List ℕ) (u : ℕ) (rest : List ℕ) → all ≡ done ++ u ∷ rest → receives_what_is_sent scans (op.Receive (length done) (kinds u)) ≡ true
         own done u rest split =
             let b : (nat_le 1 (length (kinds u)) ≡ true) × (nat_le (length (kinds u)) 64 ≡ true) = both_true (nat_le 1 (length (kinds u))) _ (table-at done u rest (ap (list_all (λ t. is_table (kinds t))) (sym split) ∙ tables)) in
-            ap (λ o. form.are_sent (kinds u) (o >>= (λ s. op_kinds s.root))) (ap (λ l. slice_get (map (scan_slice kinds) l) (length done)) split ∙ place done u rest)
+            ap (form.are_sent (kinds u)) (scan-kinds (s ∷ us) filter done u rest split)
             ∙ (λ i. all_same_themselves (kinds u) i && some-kinds (kinds u) b.0 i)
 
     only-gathers : Pass (only_gathers scans) root
@@ -234,7 +261,7 @@ module _ (kinds : ℕ → List Kind) where
         ignores = record { filter = λ c x. refl; partial = λ keys aggs x. refl; final = λ n aggs x. refl; project = λ items x. refl; distinct = λ x. refl; sort = λ order limit x. refl }
 
         own : (done : List ℕ) (u : ℕ) (rest : List ℕ) → all ≡ done ++ u ∷ rest → only_gathers scans (op.Receive (length done) (kinds u)) ≡ true
-        own done u rest split = ap (λ o. gather_of o && true) (ap (λ l. slice_get (map (scan_slice kinds) l) (length done)) split ∙ place done u rest)
+        own done u rest split = ap (λ b. b && true) (scan-gathers (s ∷ us) done u rest split)
 
     root-receives : receives root ≡ range_with_len 0 (suc (length ts))
     root-receives = rest-receives q (product_op kinds all) ∙ from-receives (op.Receive 0 (kinds t)) 1 ts
@@ -245,15 +272,15 @@ module _ (kinds : ℕ → List Kind) where
     once : (i : ℕ) → i < suc (length ts) → occurs i (all_received (scans ++ last ∷ [])) ≡ 1
     once i h =
         ap (occurs i) (flat_map-append (λ (s : Slice). receives s.root) scans (last ∷ [])
-        ∙ (λ j. scans-receive all j ++ append-nil (receives root) j) ∙ root-receives)
+        ∙ (λ j. scans-receive (s ∷ us) j ++ append-nil (receives root) j) ∙ root-receives)
         ∙ once-from i 0 (suc (length ts)) (omega arith) (omega arith)
 
     single : ts ≡ [] → Pass (λ o. not (is_join o)) root
     single e = through-tail (λ o. not (is_join o)) not-joins q (partial_op q (filters q.conds (product_op kinds all)))
         (through-partial (λ o. not (is_join o)) not-joins q (product_op kinds all) (ap (λ us. list_all (λ o. not (is_join o)) (operators (product_op kinds (t ∷ us)))) e))
 
-    several : (u : ℕ) (us : List ℕ) → ts ≡ u ∷ us → Pass form.stands_over_pairs root
-    several u us e = pairs-tail q over (partial_op q (filters q.conds (product_op kinds all))) (pairs-middle q over (product_op kinds all) (product-pass kinds all form.stands_over_pairs (λ done u rest split. refl) (λ x y. refl) t ts refl))
+    several : (u : ℕ) (rest : List ℕ) → ts ≡ u ∷ rest → Pass form.stands_over_pairs root
+    several u rest e = pairs-tail q over (partial_op q (filters q.conds (product_op kinds all))) (pairs-middle q over (product_op kinds all) (product-pass kinds all form.stands_over_pairs (λ done u rest split. refl) (λ x y. refl) t ts refl))
       where
         over : list_all stands_over_pairs q.aggregates ≡ true
         over = ap (λ ss. fit_sources ss q.aggregates) (sym (sources ∙ ap (λ l. t ∷ l) e)) ∙ q.counts_of_one
@@ -262,11 +289,11 @@ module _ (kinds : ℕ → List Kind) where
     without-counts : joins_without_counts (all_operators (scans ++ last ∷ [])) ≡ true
     without-counts = by ts refl
       where
-        by : (us : List ℕ) → ts ≡ us → joins_without_counts (all_operators (scans ++ last ∷ [])) ≡ true
+        by : (rest : List ℕ) → ts ≡ rest → joins_without_counts (all_operators (scans ++ last ∷ [])) ≡ true
         by [] e = ap (λ b. not b || list_all form.stands_over_pairs (all_operators (scans ++ last ∷ []))) (none-any is_join (all_operators (scans ++ last ∷ [])) (all-operators (λ o. not (is_join o)) (scans ++ last ∷ [])
-            (AllByRecursion-append (λ (s : Slice). list_all (λ o. not (is_join o)) (operators s.root) ≡ true) scans (last ∷ []) (scans-operators (λ o. not (is_join o)) (λ t. refl) all) (single e, tt))))
-        by (u ∷ us) e = ap (λ b. not (list_any is_join (all_operators (scans ++ last ∷ []))) || b) (all-operators form.stands_over_pairs (scans ++ last ∷ [])
-            (AllByRecursion-append (λ (s : Slice). list_all form.stands_over_pairs (operators s.root) ≡ true) scans (last ∷ []) (scans-operators form.stands_over_pairs (λ t. refl) all) (several u us e, tt)))
+            (AllByRecursion-append (λ (s : Slice). list_all (λ o. not (is_join o)) (operators s.root) ≡ true) scans (last ∷ []) (scans-operators (λ o. not (is_join o)) (λ z g. source-no_join kinds z.table z.tests g) (s ∷ us) filter) (single e, tt))))
+        by (u ∷ rest) e = ap (λ b. not (list_any is_join (all_operators (scans ++ last ∷ []))) || b) (all-operators form.stands_over_pairs (scans ++ last ∷ [])
+            (AllByRecursion-append (λ (s : Slice). list_all form.stands_over_pairs (operators s.root) ≡ true) scans (last ∷ []) (scans-operators form.stands_over_pairs (λ z g. source-pairs kinds z.table z.tests g) (s ∷ us) filter) (several u rest e, tt)))
             ∙ or_true (not (list_any is_join (all_operators (scans ++ last ∷ []))))
 
     two-to-64 : (n : ℕ) → suc n ≤ 8 → (m : ℕ) → m ≡ suc n + 1 → (nat_le 2 m && nat_le m 64) ≡ true
@@ -274,22 +301,22 @@ module _ (kinds : ℕ → List Kind) where
 
     pub well-formed : are_well_formed (scans ++ last ∷ []) ≡ true
     well-formed =
-        let size : length (scans ++ last ∷ []) ≡ suc (length ts) + 1 = length-append scans (last ∷ []) ∙ ap (λ n. n + 1) (length-map all (scan_slice kinds)) in
+        let size : length (scans ++ last ∷ []) ≡ suc (length ts) + 1 = length-append scans (last ∷ []) ∙ ap (λ n. n + 1) (length-map (s ∷ us) (scan_slice kinds) ∙ ap suc (sym (length-map us (λ (s : Source). s.table)))) in
         let many : (nat_le 2 (length (scans ++ last ∷ [])) ≡ true) × (nat_le (length (scans ++ last ∷ [])) 64 ≡ true) =
         both_true _ _ (two-to-64 (length ts) (subst (λ ss. length ss ≤ 8) sources q.few_sources) (length (scans ++ last ∷ [])) size) in
         let fine : list_all slice_is_fine (scans ++ last ∷ []) ≡ true =
-        list_all-append slice_is_fine scans (last ∷ []) ∙ (λ i. scans-fine all tables i && ((few-operators i && (root-fine i && is_some (root-kinds i))) && true)) in
-        let move : list_all motion_is_fine (scans ++ last ∷ []) ≡ true = list_all-append motion_is_fine scans (last ∷ []) ∙ (λ i. scans-move all i && true) in
+        list_all-append slice_is_fine scans (last ∷ []) ∙ (λ i. scans-fine (s ∷ us) tables filter i && ((few-operators i && (root-fine i && is_some (root-kinds i))) && true)) in
+        let move : list_all motion_is_fine (scans ++ last ∷ []) ≡ true = list_all-append motion_is_fine scans (last ∷ []) ∙ (λ i. scans-move (s ∷ us) i && true) in
         let order_fits : fit_in_order [] (scans ++ last ∷ []) ≡ true =
-        fit-append [] scans (last ∷ []) ∙ (λ i. scans-fit [] all i && ((received-sent i && alone scans (operators root) only-gathers i) && true)) in
-        λ i. many.0 i && (many.1 i && (result-push scans last (scans-out all) refl i && (fine i && (move i && (order_fits i
+        fit-append [] scans (last ∷ []) ∙ (λ i. scans-fit [] (s ∷ us) filter i && ((received-sent i && alone scans (operators root) only-gathers i) && true)) in
+        λ i. many.0 i && (many.1 i && (result-push scans last (scans-out (s ∷ us)) refl i && (fine i && (move i && (order_fits i
         && ((gather-push [] scans last ∙ gathers-last) i && (received-once (scans ++ last ∷ []) (suc (length ts)) (size ∙ one_more (length ts)) once i && without-counts i)))))))
       where
         one_more : (n : ℕ) → suc n + 1 ≡ suc (suc n)
         one_more n = omega arith
 
-pub gathered-well_formed : (kinds : ℕ → List Kind) (q : Query) → IsTrue (is_some (query_kinds kinds q)) → IsTrue (has_room kinds q) → IsTrue (is_well_formed (gathered_plan kinds q))
-gathered-well_formed kinds q fits room = by_kinds (query_kinds kinds q) refl fits
+pub gathered-well_formed : (kinds : ℕ → List Kind) (q : Query) (ss : List Source) → q.sources ≡ tables_of ss → IsTrue (is_some (query_kinds kinds q)) → IsTrue (has_room kinds q) → IsTrue (fit_filters kinds ss) → IsTrue (is_well_formed (gathered_plan kinds q ss))
+gathered-well_formed kinds q ss sources fits room filter = by_kinds (query_kinds kinds q) refl fits
   where
     b : (list_all (λ t. is_table (kinds t)) q.sources ≡ true) × ((are_few q && (is_short q.groups && (is_short q.aggregates && is_short q.order))) ≡ true)
     b = both_true (list_all (λ t. is_table (kinds t)) q.sources) _ room
@@ -303,10 +330,10 @@ gathered-well_formed kinds q fits room = by_kinds (query_kinds kinds q) refl fit
     e : (is_short q.aggregates ≡ true) × (is_short q.order ≡ true)
     e = both_true (is_short q.aggregates) _ d.1
 
-    by_sources : (out : List Kind) → query_kinds kinds q ≡ Some out → (ss : List ℕ) → q.sources ≡ ss → 0 < length ss → are_well_formed (map (scan_slice kinds) ss ++ sending motion.Result (rest_op q (product_op kinds ss)) ∷ []) ≡ true
-    by_sources out f [] s some = absurd (omega arith)
-    by_sources out f (t ∷ ts) s some = well-formed kinds q out f c.0 d.0 e.0 e.1 t ts s (subst (λ ss. list_all (λ t. is_table (kinds t)) ss ≡ true) s b.0)
+    by_sources : (out : List Kind) → query_kinds kinds q ≡ Some out → (ss : List Source) → fit_filters kinds ss ≡ true → q.sources ≡ tables_of ss → 0 < length (tables_of ss) → are_well_formed (map (scan_slice kinds) ss ++ sending motion.Result (rest_op q (product_op kinds (tables_of ss))) ∷ []) ≡ true
+    by_sources out f [] g s some = absurd (omega arith)
+    by_sources out f (u ∷ us) g s some = well-formed kinds q out f c.0 d.0 e.0 e.1 u us s (subst (λ ss. list_all (λ t. is_table (kinds t)) ss ≡ true) s b.0) g
 
-    by_kinds : (o : Option (List Kind)) → query_kinds kinds q ≡ o → is_some o ≡ true → are_well_formed (map (scan_slice kinds) q.sources ++ sending motion.Result (rest_op q (product_op kinds q.sources)) ∷ []) ≡ true
+    by_kinds : (o : Option (List Kind)) → query_kinds kinds q ≡ o → is_some o ≡ true → are_well_formed (map (scan_slice kinds) ss ++ sending motion.Result (rest_op q (product_op kinds (tables_of ss))) ∷ []) ≡ true
     by_kinds None f h = cc
-    by_kinds (Some out) f h = by_sources out f q.sources refl q.some_sources
+    by_kinds (Some out) f h = by_sources out f ss filter sources (subst (λ l. 0 < length l) sources q.some_sources)

@@ -4,7 +4,7 @@ use Rattle.std.specs.Option.{option_map_or}
 use Rattle.std.specs.List.{list_any, list_all}
 use Rattle.std.proofs.lemmas.List.{append-nil, length-map}
 use Rattle.std.proofs.lemmas.List.Folds.{list_all-append}
-use Rattle.hq_value.specs.declared.table.Kind.{Kind}
+use Rattle.hq_value.specs.declared.kind.Kind.{Kind}
 use Rattle.hq_algebra.specs.declared.op.Op.{Op}
 use Rattle.hq_algebra.specs.declared.op.Op.TheVariants as op
 use Rattle.hq_algebra.specs.declared.op.Op.TheBlock.{hidden-the_row-Op-0}
@@ -20,8 +20,10 @@ use Rattle.hq_algebra.specs.Plans as form
 use Rattle.hq_algebra.specs.Plans.{operators, is_short, is_join, op_is_fine, slice_is_fine, motion_is_fine, is_result, is_gather, ends_with_result, receives_what_is_sent, gathers, only_gathers, gathers_alone, fits_before, fit_in_order, ends_with_gather, receives_a_gather, all_operators, are_received_once, joins_without_counts, are_well_formed, is_well_formed}
 use Rattle.hq_meaning.specs.Slices.{receives}
 use Rattle.hq_laws.specs.Stages.{filters, partial_op, final_op, tail_op, sending}
-use Rattle.hq_laws.specs.Spread.{Joining, Built, first_source, with_source, with_sources, spread_plan}
-use Rattle.hq_laws.specs.Room.{is_table, are_few, has_room, way_stands, is_joinable, are_joinable, kinds_sent, is_sendable}
+use Rattle.hq_laws.specs.Spread.{Joining, source_of, sources_of, Built, first_source, with_source, with_sources, spread_plan}
+use Rattle.hq_laws.specs.Sources.{Source, fits_filter, fit_filters}
+use Rattle.hq_algebra.specs.Bound.{is_table, are_few, has_room}
+use Rattle.hq_laws.specs.Room.{way_stands, is_joinable, are_joinable, kinds_sent, is_sendable}
 use Rattle.std.specs.List.{AllByRecursion}
 use Rattle.hq_laws.proofs.Lists.{occurs, occurs-append, or_true, both_true}
 use Rattle.hq_laws.proofs.Regroup.{flat_map-append}
@@ -31,23 +33,24 @@ use Rattle.hq_laws.proofs.Typing.{Seen, seen-from, filters-kinds, final-kinds, t
 use Rattle.hq_laws.proofs.Fitness.{Pass, Ignores, through-partial, through-tail, filters-count, partial-count, final-count, tail-count, conds-fine, partial-fine, final-fine, tail-fine}
 use Rattle.hq_laws.proofs.Shapes.{result-push, fit-append, gather-push, any-received, all_received, received-once, all-operators, none-any, alone}
 use Rattle.hq_laws.proofs.GatheredForm.{pairs-middle, pairs-tail, not-joins}
-use Rattle.hq_laws.proofs.SpreadForm.{Formed, formed-first, formed-by, receives-none, place, sent-there}
+use Rattle.hq_laws.proofs.SpreadForm.{Formed, formed-first, formed-by, source-no_join, receives-none, place, sent-there}
 
 -- one source more, and all of them
-formed-next : (kinds : ℕ → List Kind) (b : Built) (k : ℕ) → Formed kinds b k → k ≤ 7 → (j : Joining) → is_table (kinds j.table) ≡ true → is_joinable b.kinds (kinds j.table) j ≡ true → Formed kinds (with_source kinds b j) (suc k)
-formed-next kinds b k f seven j table joinable =
+formed-next : (kinds : ℕ → List Kind) (b : Built) (k : ℕ) → Formed kinds b k → k ≤ 7 → (j : Joining) → is_table (kinds j.table) ≡ true → is_joinable b.kinds (kinds j.table) j ≡ true → fits_filter (kinds j.table) j.tests ≡ true → Formed kinds (with_source kinds b j) (suc k)
+formed-next kinds b k f seven j table joinable filter =
     let a : (is_some (join_kinds j.left_keys j.right_keys b.kinds (kinds j.table)) ≡ true) × (((is_short j.left_keys && is_short j.right_keys) && way_stands j.way b.kinds (kinds j.table) j.left_keys j.right_keys) ≡ true) = both_true _ _ joinable in
     let c : ((is_short j.left_keys && is_short j.right_keys) ≡ true) × (way_stands j.way b.kinds (kinds j.table) j.left_keys j.right_keys ≡ true) = both_true _ _ a.1 in
     let d : (is_short j.left_keys ≡ true) × (is_short j.right_keys ≡ true) = both_true _ _ c.0 in
-    formed-by kinds b k f seven j.table j.left_keys j.right_keys table a.0 d.0 d.1 j.way c.1
+    formed-by kinds b k f seven j.table j.tests filter j.left_keys j.right_keys table a.0 d.0 d.1 j.way c.1
 
-formed-all : (kinds : ℕ → List Kind) (b : Built) (k : ℕ) → Formed kinds b k → (js : List Joining) → k + length js ≤ 7 → list_all (λ t. is_table (kinds t)) (map (λ (j : Joining). j.table) js) ≡ true → are_joinable kinds b.kinds js ≡ true
+formed-all : (kinds : ℕ → List Kind) (b : Built) (k : ℕ) → Formed kinds b k → (js : List Joining) → k + length js ≤ 7 → list_all (λ t. is_table (kinds t)) (map (λ (j : Joining). j.table) js) ≡ true → are_joinable kinds b.kinds js ≡ true → fit_filters kinds (map source_of js) ≡ true
     → (m : ℕ) × (m ≤ 7) × Formed kinds (with_sources kinds b js) m
-formed-all kinds b k f [] seven tables joinable = (k, omega (arith, seven), f)
-formed-all kinds b k f (j ∷ js) seven tables joinable =
+formed-all kinds b k f [] seven tables joinable filters = (k, omega (arith, seven), f)
+formed-all kinds b k f (j ∷ js) seven tables joinable filters =
+    let g : (fits_filter (kinds j.table) j.tests ≡ true) × (fit_filters kinds (map source_of js) ≡ true) = both_true (fits_filter (kinds j.table) j.tests) (fit_filters kinds (map source_of js)) filters in
     let a : (is_table (kinds j.table) ≡ true) × (list_all (λ t. is_table (kinds t)) (map (λ (j : Joining). j.table) js) ≡ true) = both_true _ _ tables in
     let c : (is_joinable b.kinds (kinds j.table) j ≡ true) × (are_joinable kinds (b.kinds ++ kinds j.table) js ≡ true) = both_true _ _ joinable in
-    formed-all kinds (with_source kinds b j) (suc k) (formed-next kinds b k f (omega (arith, seven)) j a.0 c.0) js (omega (arith, seven)) a.1 c.1
+    formed-all kinds (with_source kinds b j) (suc k) (formed-next kinds b k f (omega (arith, seven)) j a.0 c.0 g.0) js (omega (arith, seven)) a.1 c.1 g.1
 
 with_sources-kinds : (kinds : ℕ → List Kind) (b : Built) (js : List Joining) → (with_sources kinds b js).kinds ≡ b.kinds ++ flat_map kinds (map (λ (j : Joining). j.table) js)
 with_sources-kinds kinds b [] = sym (append-nil b.kinds)
@@ -101,13 +104,13 @@ module _ (kinds : ℕ → List Kind) (q : Query) (out : List Kind) (fits : query
   middle-few : nat_le (length (operators middle)) 64 ≡ true
   middle-few = count (length q.conds) (length q.having) (length (operators b.root)) (length (operators inner)) (length (operators middle)) (partial-count q inner) (filters-count q.conds b.root) f.root_count few
     where
-      count : (c h p s n : ℕ) → n ≤ suc s → s ≡ c + p → p ≤ 1 + (k + k) → nat_le (c + h) 44 ≡ true → nat_le n 64 ≡ true
+      count : (c h p s n : ℕ) → n ≤ suc s → s ≡ c + p → p ≤ 2 + (k + k + k) → nat_le (c + h) 40 ≡ true → nat_le n 64 ≡ true
       count c h p s n a e d g = grind (arith, seven)
 
   root-few : nat_le (length (operators root)) 64 ≡ true
   root-few = count (length q.conds) (length q.having) (length (operators (final_op q received_op))) (length (operators root)) (tail-count q (final_op q received_op)) (final-count q received_op) few
     where
-      count : (c h s n : ℕ) → n ≤ h + s + 3 → s ≤ 2 → nat_le (c + h) 44 ≡ true → nat_le n 64 ≡ true
+      count : (c h s n : ℕ) → n ≤ h + s + 3 → s ≤ 2 → nat_le (c + h) 40 ≡ true → nat_le n 64 ≡ true
       count c h s n a e g = grind arith
 
   middle-fine : Pass op_is_fine middle
@@ -200,9 +203,9 @@ module _ (kinds : ℕ → List Kind) (q : Query) (out : List Kind) (fits : query
       next : (n : ℕ) → n + 1 + 1 ≡ suc (n + 1)
       next n = omega arith
 
-pub spread-well_formed : (kinds : ℕ → List Kind) (sent : List Kind) (q : Query) (t : ℕ) (js : List Joining) → q.sources ≡ t ∷ map (λ (j : Joining). j.table) js → IsTrue (is_some (query_kinds kinds q)) → IsTrue (has_room kinds q)
-    → kinds_sent kinds q ≡ Some sent → IsTrue (is_sendable sent) → IsTrue (are_joinable kinds (kinds t) js) → IsTrue (is_well_formed (spread_plan kinds sent q t js))
-spread-well_formed kinds sent q t js sources fits room sends some joinable = by_kinds (query_kinds kinds q) refl fits
+pub spread-well_formed : (kinds : ℕ → List Kind) (sent : List Kind) (q : Query) (s : Source) (js : List Joining) → q.sources ≡ s.table ∷ map (λ (j : Joining). j.table) js → IsTrue (is_some (query_kinds kinds q)) → IsTrue (has_room kinds q)
+    → kinds_sent kinds q ≡ Some sent → IsTrue (is_sendable sent) → IsTrue (are_joinable kinds (kinds s.table) js) → IsTrue (fit_filters kinds (sources_of s js)) → IsTrue (is_well_formed (spread_plan kinds sent q s js))
+spread-well_formed kinds sent q s js sources fits room sends some joinable filters = by_kinds (query_kinds kinds q) refl fits
   where
     b : (list_all (λ t. is_table (kinds t)) q.sources ≡ true) × ((are_few q && (is_short q.groups && (is_short q.aggregates && is_short q.order))) ≡ true)
     b = both_true (list_all (λ t. is_table (kinds t)) q.sources) _ room
@@ -216,23 +219,26 @@ spread-well_formed kinds sent q t js sources fits room sends some joinable = by_
     e : (is_short q.aggregates ≡ true) × (is_short q.order ≡ true)
     e = both_true (is_short q.aggregates) _ d.1
 
-    tables : (is_table (kinds t) ≡ true) × (list_all (λ t. is_table (kinds t)) (map (λ (j : Joining). j.table) js) ≡ true)
-    tables = both_true (is_table (kinds t)) _ (subst (λ ss. list_all (λ t. is_table (kinds t)) ss ≡ true) sources b.0)
+    filter : (fits_filter (kinds s.table) s.tests ≡ true) × (fit_filters kinds (map source_of js) ≡ true)
+    filter = both_true (fits_filter (kinds s.table) s.tests) (fit_filters kinds (map source_of js)) filters
+
+    tables : (is_table (kinds s.table) ≡ true) × (list_all (λ t. is_table (kinds t)) (map (λ (j : Joining). j.table) js) ≡ true)
+    tables = both_true (is_table (kinds s.table)) _ (subst (λ ss. list_all (λ t. is_table (kinds t)) ss ≡ true) sources b.0)
 
     count : 0 + length js ≤ 7
-    count = let n : length (t ∷ map (λ (j : Joining). j.table) js) ≤ 8 = subst (λ ss. length ss ≤ 8) sources q.few_sources in
+    count = let n : length (s.table ∷ map (λ (j : Joining). j.table) js) ≤ 8 = subst (λ ss. length ss ≤ 8) sources q.few_sources in
         let z : length (map (λ (j : Joining). j.table) js) ≡ length js = length-map js (λ (j : Joining). j.table) in omega (arith, n, z)
 
-    formed : (m : ℕ) × (m ≤ 7) × Formed kinds (with_sources kinds (first_source kinds t) js) m
-    formed = formed-all kinds (first_source kinds t) 0 (formed-first kinds t tables.0) js count tables.1 joinable
+    formed : (m : ℕ) × (m ≤ 7) × Formed kinds (with_sources kinds (first_source kinds s) js) m
+    formed = formed-all kinds (first_source kinds s) 0 (formed-first kinds s tables.0 filter.0) js count tables.1 joinable filter.1
 
-    typed : (with_sources kinds (first_source kinds t) js).kinds ≡ product_kinds kinds q
-    typed = with_sources-kinds kinds (first_source kinds t) js ∙ ap (flat_map kinds) (sym sources)
+    typed : (with_sources kinds (first_source kinds s) js).kinds ≡ product_kinds kinds q
+    typed = with_sources-kinds kinds (first_source kinds s) js ∙ ap (flat_map kinds) (sym sources)
 
-    sorts : (us : List Joining) → js ≡ us → HasNoJoin (with_sources kinds (first_source kinds t) us) ⊎ (list_all stands_over_pairs q.aggregates ≡ true)
-    sorts [] g = inl (tt, refl)
-    sorts (u ∷ us) g = inr (ap (λ ss. fit_sources ss q.aggregates) (sym (sources ∙ ap (λ l. t ∷ map (λ (j : Joining). j.table) l) g)) ∙ q.counts_of_one)
+    sorts : (us : List Joining) → js ≡ us → HasNoJoin (with_sources kinds (first_source kinds s) us) ⊎ (list_all stands_over_pairs q.aggregates ≡ true)
+    sorts [] g = inl (tt, source-no_join kinds s.table s.tests filter.0)
+    sorts (u ∷ us) g = inr (ap (λ ss. fit_sources ss q.aggregates) (sym (sources ∙ ap (λ l. s.table ∷ map (λ (j : Joining). j.table) l) g)) ∙ q.counts_of_one)
 
-    by_kinds : (o : Option (List Kind)) → query_kinds kinds q ≡ o → is_some o ≡ true → is_well_formed (spread_plan kinds sent q t js) ≡ true
+    by_kinds : (o : Option (List Kind)) → query_kinds kinds q ≡ o → is_some o ≡ true → is_well_formed (spread_plan kinds sent q s js) ≡ true
     by_kinds None g h = cc
-    by_kinds (Some out) g h = closed-well_formed kinds q out g c.0 d.0 e.0 e.1 (with_sources kinds (first_source kinds t) js) formed.0 formed.2 formed.1 typed sent sends some (sorts js refl)
+    by_kinds (Some out) g h = closed-well_formed kinds q out g c.0 d.0 e.0 e.1 (with_sources kinds (first_source kinds s) js) formed.0 formed.2 formed.1 typed sent sends some (sorts js refl)

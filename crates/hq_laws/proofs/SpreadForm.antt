@@ -3,7 +3,10 @@ use Rattle.std.proofs.Common.{◌≡◌, ℕ, zero, suc, ◌+◌, ◌*◌, ◌�
 use Rattle.std.specs.List.{list_any, list_all}
 use Rattle.std.proofs.lemmas.List.{append-nil}
 use Rattle.std.proofs.lemmas.List.Folds.{list_all-append}
-use Rattle.hq_value.specs.declared.table.Kind.{Kind}
+use Rattle.hq_value.specs.declared.kind.Kind.{Kind}
+use Rattle.hq_value.specs.declared.kind.Kind.TheVariants as kind
+use Rattle.hq_algebra.specs.declared.expr.Expr.{Expr}
+use Rattle.hq_algebra.specs.Shape.{parts, has_arith}
 use Rattle.hq_algebra.specs.declared.op.Op.{Op}
 use Rattle.hq_algebra.specs.declared.op.Op.TheVariants as op
 use Rattle.hq_algebra.specs.declared.op.Op.TheBlock.{hidden-the_row-Op-0}
@@ -12,18 +15,21 @@ use Rattle.hq_algebra.specs.declared.plan.Slice.{Slice}
 use Rattle.hq_algebra.specs.declared.plan.Motion.TheVariants as motion
 use denote.Hole.Carrier.{hidden}
 use Rattle.hq_algebra.specs.Rules.{is_empty}
-use Rattle.hq_algebra.specs.Kinds.{◌>>=◌, same_kinds, some_if}
+use Rattle.hq_algebra.specs.Kinds.{◌>>=◌, same_kinds, some_if, is_of, expr_kind}
 use Rattle.hq_algebra.specs.Operators.{op_kinds, keys_kinds, join_kinds}
 use Rattle.hq_algebra.specs.Plans as form
 use Rattle.hq_algebra.specs.Plans.{operators, received, is_short, is_join, op_is_fine, slice_is_fine, motion_is_fine, motion_stands, is_result, is_gather, ends_with_result, are_sent, receives_what_is_sent, gathers, only_gathers, gathers_alone, fits_before, fit_in_order, ends_with_gather, receives_a_gather, all_operators, are_received_once, joins_without_counts, are_well_formed, is_well_formed, keys_stand}
 use Rattle.hq_meaning.specs.Slices.{receives}
 use Rattle.hq_laws.specs.Stages.{sending}
-use Rattle.hq_laws.specs.Spread.{Way, CopyRight, CopyLeft, MoveBoth, MoveLeft, Built, first_source, added_slices, left_side, right_side}
-use Rattle.hq_laws.specs.Room.{is_table, way_stands, is_sendable}
+use Rattle.hq_laws.specs.Spread.{Way, CopyRight, CopyLeft, MoveBoth, MoveLeft, MoveRight, Stay, Built, first_source, added_slices, left_side, right_side}
+use Rattle.hq_laws.specs.Sources.{Source, all_of, source_op, fits_filter}
+use Rattle.hq_algebra.specs.Bound.{is_table}
+use Rattle.hq_laws.specs.Room.{way_stands, is_sendable}
 use Rattle.std.specs.List.{AllByRecursion}
 use Rattle.hq_laws.proofs.Lists.{occurs, occurs-append, both_true}
 use Rattle.hq_laws.proofs.Regroup.{flat_map-append}
 use Rattle.hq_laws.proofs.Chains.{AllByRecursion-append}
+use Rattle.hq_laws.proofs.Sourcing.{source-pass, source-count, source-kinds, source-receives}
 use Rattle.hq_laws.proofs.Typing.{all_same_themselves}
 use Rattle.hq_laws.proofs.Fitness.{Pass}
 use Rattle.hq_laws.proofs.Shapes.{fit-append, any-received, all_received}
@@ -84,7 +90,7 @@ pub record Formed (kinds : ℕ → List Kind) (b : Built) (k : ℕ) : Type 0 whe
   pub pairs : AllByRecursion (λ (s : Slice). Pass form.stands_over_pairs s.root) b.slices
   pub root_pairs : Pass form.stands_over_pairs b.root
   pub root_fine : Pass op_is_fine b.root
-  pub root_count : length (operators b.root) ≤ 1 + (k + k)
+  pub root_count : length (operators b.root) ≤ 2 + (k + k + k)
   pub root_kinds : op_kinds b.root ≡ Some b.kinds
   pub root_sent : (more : List Slice) → Pass (receives_what_is_sent (b.slices ++ more)) b.root
   pub wide : is_sendable b.kinds ≡ true
@@ -108,24 +114,64 @@ table-size ks h =
     most : (n : ℕ) → nat_le n 64 ≡ true → n ≤ 64
     most n h = grind arith
 
-pub formed-first : (kinds : ℕ → List Kind) (t : ℕ) → is_table (kinds t) ≡ true → Formed kinds (first_source kinds t) 0
-formed-first kinds t h =
-    let size : (1 ≤ length (kinds t)) × (length (kinds t) ≤ 64) = table-size (kinds t) h in
-    let wide : is_sendable (kinds t) ≡ true = sendable (kinds t) size.0 (omega (arith, size.1)) in
+-- what the operator of a source passes
+module _ (kinds : ℕ → List Kind) (t : ℕ) (tests : List Expr) (fit : fits_filter (kinds t) tests ≡ true) where
+  abbrev src : Op
+  src = source_op kinds t tests
+
+  pub source-fine : is_short (kinds t) ≡ true → Pass op_is_fine src
+  unfolding hidden-the_row-Op-0 hidden
+  source-fine short = source-pass kinds t op_is_fine tests short own
+    where
+      own : (e : Expr) (es : List Expr) → tests ≡ e ∷ es → op_is_fine (op.Filter (all_of e es) (op.Scan t (kinds t))) ≡ true
+      own e es g =
+          let h : (is_of kind.Bool (expr_kind (kinds t) (all_of e es)) ≡ true) × ((not (has_arith (all_of e es)) && nat_le (parts (all_of e es)) 2100) ≡ true) = both_true _ _ (ap (fits_filter (kinds t)) (sym g) ∙ fit) in
+          let k : (not (has_arith (all_of e es)) ≡ true) × (nat_le (parts (all_of e es)) 2100 ≡ true) = both_true _ _ h.1 in
+          λ i. (k.1 i && true) && (k.0 i && true)
+
+  pub source-pairs : Pass form.stands_over_pairs src
+  unfolding hidden-the_row-Op-0 hidden
+  source-pairs = source-pass kinds t form.stands_over_pairs tests refl (λ e es g. refl)
+
+  pub source-no_join : Pass (λ o. not (is_join o)) src
+  unfolding hidden-the_row-Op-0 hidden
+  source-no_join = source-pass kinds t (λ o. not (is_join o)) tests refl (λ e es g. refl)
+
+  pub source-sent : (before : List Slice) → Pass (receives_what_is_sent before) src
+  unfolding hidden-the_row-Op-0 hidden
+  source-sent before = source-pass kinds t (receives_what_is_sent before) tests refl (λ e es g. refl)
+
+  pub source-slice : (out : Motion) → is_short (kinds t) ≡ true → slice_is_fine (sending out src) ≡ true
+  source-slice out short = λ i. few (length (operators src)) (source-count kinds t tests) i && (source-fine short i && is_some (source-kinds kinds t tests fit i))
+    where
+      few : (n : ℕ) → n ≤ 2 → nat_le n 64 ≡ true
+      few n h = grind arith
+
+  pub source-alone : (before : List Slice) → gathers_alone before (operators src) ≡ true
+  source-alone before = ap (λ b. not b || list_all (only_gathers before) (operators src)) (any-received before src ∙ ap (list_any (gathers before)) (source-receives kinds t tests))
+
+  pub source-fits : (before : List Slice) (out : Motion) → fits_before before (sending out src) ≡ true
+  source-fits before out = λ i. source-sent before i && source-alone before i
+
+pub formed-first : (kinds : ℕ → List Kind) (s : Source) → is_table (kinds s.table) ≡ true → fits_filter (kinds s.table) s.tests ≡ true → Formed kinds (first_source kinds s) 0
+formed-first kinds s h fit =
+    let size : (1 ≤ length (kinds s.table)) × (length (kinds s.table) ≤ 64) = table-size (kinds s.table) h in
+    let wide : is_sendable (kinds s.table) ≡ true = sendable (kinds s.table) size.0 (omega (arith, size.1)) in
+    let few : length (operators (source_op kinds s.table s.tests)) ≤ 2 = source-count kinds s.table s.tests in
     record {
       out = tt;
       none = tt;
       fine = refl;
       move = refl;
       fits = refl;
-      once = counted;
+      once = λ i. ap (λ l. 0 + occurs i l) (source-receives kinds s.table s.tests) ∙ counted i;
       size = omega arith;
       pairs = tt;
-      root_pairs = refl;
-      root_fine = λ i. (both_true (not (is_empty (kinds t))) (is_short (kinds t)) wide).1 i && true;
-      root_count = omega arith;
-      root_kinds = refl;
-      root_sent = λ more. refl;
+      root_pairs = source-pairs kinds s.table s.tests fit;
+      root_fine = source-fine kinds s.table s.tests fit (both_true (not (is_empty (kinds s.table))) (is_short (kinds s.table)) wide).1;
+      root_count = omega (arith, few);
+      root_kinds = source-kinds kinds s.table s.tests fit;
+      root_sent = λ more. source-sent kinds s.table s.tests fit more;
       wide = wide;
       width = omega (arith, size.1);
     }
@@ -170,12 +216,15 @@ module _ (kinds : ℕ → List Kind) (b : Built) (k : ℕ) (f : Formed kinds b k
   one-sent : (i l a c m : ℕ) → a + c ≡ cond (nat_lt i l) 1 0 → m ≡ l + 1 → (a + (c + 0)) + (cond (i == l) 1 0 + 0) ≡ cond (nat_lt i m) 1 0
   one-sent i l a c m h e = grind arith
 
+  none-sent : (i l a c m : ℕ) → a + c ≡ cond (nat_lt i l) 1 0 → m ≡ l → (a + 0) + (c + 0) ≡ cond (nat_lt i m) 1 0
+  none-sent i l a c m h e = grind arith
+
   two-sent : (i l a c m : ℕ) → a + c ≡ cond (nat_lt i l) 1 0 → m ≡ l + 2 → (a + (c + 0)) + (cond (i == l) 1 0 + (cond (i == suc l) 1 0 + 0)) ≡ cond (nat_lt i m) 1 0
   two-sent i l a c m h e = grind arith
 
-  module _ (t : ℕ) (lk rk : List ℕ) (table : is_table (kinds t) ≡ true) (joins : is_some (join_kinds lk rk b.kinds (kinds t)) ≡ true) (left_short : is_short lk ≡ true) (right_short : is_short rk ≡ true) where
+  module _ (t : ℕ) (tests : List Expr) (filter : fits_filter (kinds t) tests ≡ true) (lk rk : List ℕ) (table : is_table (kinds t) ≡ true) (joins : is_some (join_kinds lk rk b.kinds (kinds t)) ≡ true) (left_short : is_short lk ≡ true) (right_short : is_short rk ≡ true) where
     abbrev scan : Op
-    scan = op.Scan t (kinds t)
+    scan = source_op kinds t tests
 
     abbrev next : Way → Built
     next way = record {
@@ -183,6 +232,18 @@ module _ (kinds : ℕ → List Kind) (b : Built) (k : ℕ) (f : Formed kinds b k
       root = op.Join lk rk (left_side way (length b.slices) b.kinds b.root) (right_side way (length b.slices) (kinds t) scan);
       kinds = b.kinds ++ kinds t;
     }
+
+    scan-kinds : op_kinds scan ≡ Some (kinds t)
+    scan-kinds = source-kinds kinds t tests filter
+
+    scan-few : length (operators scan) ≤ 2
+    scan-few = source-count kinds t tests
+
+    scan-pairs : Pass form.stands_over_pairs scan
+    scan-pairs = source-pairs kinds t tests filter
+
+    scan-receives : receives scan ≡ []
+    scan-receives = source-receives kinds t tests
 
     table-wide : is_sendable (kinds t) ≡ true
     table-wide = let size : (1 ≤ length (kinds t)) × (length (kinds t) ≤ 64) = table-size (kinds t) table in sendable (kinds t) size.0 (omega (arith, size.1))
@@ -229,10 +290,10 @@ module _ (kinds : ℕ → List Kind) (b : Built) (k : ℕ) (f : Formed kinds b k
     receive-fine i ks h = λ j. (both_true (not (is_empty ks)) (is_short ks) h).1 j && true
 
     scan-fine : Pass op_is_fine scan
-    scan-fine = λ i. table-short i && true
+    scan-fine = source-fine kinds t tests filter table-short
 
     scan-slice : (out : Motion) → slice_is_fine (sending out scan) ≡ true
-    scan-slice out = λ i. scan-fine i && true
+    scan-slice out = source-slice kinds t tests filter out table-short
 
     -- a Receive of a slice behind these
     sent-first : (s : Slice) (more : List Slice) (ks : List Kind) → is_sendable ks ≡ true → op_kinds s.root ≡ Some ks → Pass (receives_what_is_sent (b.slices ++ s ∷ more)) (op.Receive (length b.slices) ks)
@@ -251,27 +312,56 @@ module _ (kinds : ℕ → List Kind) (b : Built) (k : ℕ) (f : Formed kinds b k
     size-one s = let e : length (b.slices ++ s ∷ []) ≡ length b.slices + 1 = length-append b.slices (s ∷ []) in let z = f.size in omega (arith, e, z)
 
     -- the table is sent
-    formed-copy-right : Formed kinds (next CopyRight) (suc k)
-    formed-copy-right =
-        let s : Slice = sending motion.Broadcast scan in
+    formed-right : (out : Motion) → is_result out ≡ false → is_gather out ≡ false → motion_is_fine (sending out scan) ≡ true
+        → Formed kinds (record { slices = b.slices ++ sending out scan ∷ []; root = op.Join lk rk b.root (op.Receive (length b.slices) (kinds t)); kinds = b.kinds ++ kinds t }) (suc k)
+    formed-right out no_result no_gather stands =
+        let s : Slice = sending out scan in
         let c : length (operators (op.Join lk rk b.root (op.Receive (length b.slices) (kinds t)))) ≡ suc (length (operators b.root) + 1) = join-count b.root (op.Receive (length b.slices) (kinds t)) in
         let d = f.root_count in
         record {
-          out = out-more (s ∷ []) (refl, tt);
-          none = none-more (s ∷ []) (refl, tt);
-          fine = fine-more (s ∷ []) (λ i. scan-slice motion.Broadcast i && true);
-          move = move-more (s ∷ []) refl;
-          fits = fits-more (s ∷ []) refl;
-          once = λ i. (λ j. received-more i (s ∷ []) j + (ap (occurs i) (join-receives b.root (op.Receive (length b.slices) (kinds t))) ∙ occurs-append i (receives b.root) (length b.slices ∷ [])) j)
+          out = out-more (s ∷ []) (no_result, tt);
+          none = none-more (s ∷ []) (no_gather, tt);
+          fine = fine-more (s ∷ []) (λ i. scan-slice out i && true);
+          move = move-more (s ∷ []) (λ i. stands i && true);
+          fits = fits-more (s ∷ []) (λ i. source-fits kinds t tests filter b.slices out i && true);
+          once = λ i. (λ j. (received-more i (s ∷ []) ∙ ap (λ l. occurs i (all_received b.slices) + occurs i (l ++ [])) scan-receives) j + (ap (occurs i) (join-receives b.root (op.Receive (length b.slices) (kinds t))) ∙ occurs-append i (receives b.root) (length b.slices ∷ [])) j)
               ∙ one-more i (length b.slices) (occurs i (all_received b.slices)) (occurs i (receives b.root)) (length (b.slices ++ s ∷ [])) (f.once i) (length-append b.slices (s ∷ []));
           size = size-one s;
-          pairs = pairs-more (s ∷ []) (refl, tt);
+          pairs = pairs-more (s ∷ []) (scan-pairs, tt);
           root_pairs = join-pass form.stands_over_pairs b.root (op.Receive (length b.slices) (kinds t)) refl f.root_pairs refl;
           root_fine = join-pass op_is_fine b.root (op.Receive (length b.slices) (kinds t)) (join-own b.root (op.Receive (length b.slices) (kinds t))) f.root_fine (receive-fine (length b.slices) (kinds t) table-wide);
           root_count = omega (arith, c, d);
           root_kinds = join-kinds b.root (op.Receive (length b.slices) (kinds t)) f.root_kinds refl;
           root_sent = behind-one s (op.Join lk rk b.root (op.Receive (length b.slices) (kinds t)))
-              (λ more. join-pass (receives_what_is_sent (b.slices ++ s ∷ more)) b.root (op.Receive (length b.slices) (kinds t)) refl (f.root_sent (s ∷ more)) (sent-first s more (kinds t) table-wide refl));
+              (λ more. join-pass (receives_what_is_sent (b.slices ++ s ∷ more)) b.root (op.Receive (length b.slices) (kinds t)) refl (f.root_sent (s ∷ more)) (sent-first s more (kinds t) table-wide scan-kinds));
+          wide = next-wide;
+          width = next-width;
+        }
+
+    -- nothing is sent
+    formed-stay : Formed kinds (next Stay) (suc k)
+    formed-stay =
+        let c : length (operators (op.Join lk rk b.root scan)) ≡ suc (length (operators b.root) + length (operators scan)) = join-count b.root scan in
+        let d = f.root_count in
+        let e : length (b.slices ++ []) ≡ length b.slices = ap (λ (l : List Slice). length l) (append-nil b.slices) in
+        let z = f.size in
+        let few : length (operators scan) ≤ 2 = scan-few in
+        record {
+          out = out-more [] tt;
+          none = none-more [] tt;
+          fine = fine-more [] refl;
+          move = move-more [] refl;
+          fits = fits-more [] refl;
+          once = λ i. (λ j. received-more i [] j + (ap (occurs i) (join-receives b.root scan) ∙ occurs-append i (receives b.root) (receives scan) ∙ ap (λ l. occurs i (receives b.root) + occurs i l) scan-receives) j)
+              ∙ none-sent i (length b.slices) (occurs i (all_received b.slices)) (occurs i (receives b.root)) (length (b.slices ++ [])) (f.once i) e;
+          size = omega (arith, e, z);
+          pairs = pairs-more [] tt;
+          root_pairs = join-pass form.stands_over_pairs b.root scan refl f.root_pairs scan-pairs;
+          root_fine = join-pass op_is_fine b.root scan (join-own b.root scan) f.root_fine scan-fine;
+          root_count = omega (arith, c, d, few);
+          root_kinds = join-kinds b.root scan f.root_kinds scan-kinds;
+          root_sent = λ more. subst (λ l. Pass (receives_what_is_sent (l ++ more)) (op.Join lk rk b.root scan)) (sym (append-nil b.slices))
+              (join-pass (receives_what_is_sent (b.slices ++ more)) b.root scan refl (f.root_sent more) (source-sent kinds t tests filter (b.slices ++ more)));
           wide = next-wide;
           width = next-width;
         }
@@ -281,23 +371,24 @@ module _ (kinds : ℕ → List Kind) (b : Built) (k : ℕ) (f : Formed kinds b k
         → Formed kinds (record { slices = b.slices ++ sending out b.root ∷ []; root = op.Join lk rk (op.Receive (length b.slices) b.kinds) scan; kinds = b.kinds ++ kinds t }) (suc k)
     formed-left out no_result no_gather stands =
         let s : Slice = sending out b.root in
-        let c : length (operators (op.Join lk rk (op.Receive (length b.slices) b.kinds) scan)) ≡ suc (1 + 1) = join-count (op.Receive (length b.slices) b.kinds) scan in
+        let c : length (operators (op.Join lk rk (op.Receive (length b.slices) b.kinds) scan)) ≡ suc (1 + length (operators scan)) = join-count (op.Receive (length b.slices) b.kinds) scan in
+        let few : length (operators scan) ≤ 2 = scan-few in
         record {
           out = out-more (s ∷ []) (no_result, tt);
           none = none-more (s ∷ []) (no_gather, tt);
           fine = fine-more (s ∷ []) (λ i. root-slice out i && true);
           move = move-more (s ∷ []) (λ i. stands i && true);
           fits = fits-more (s ∷ []) (λ i. root-fits out i && true);
-          once = λ i. (λ j. (received-more i (s ∷ []) ∙ ap (λ n. occurs i (all_received b.slices) + n) (occurs-append i (receives b.root) [])) j + ap (occurs i) (join-receives (op.Receive (length b.slices) b.kinds) scan) j)
+          once = λ i. (λ j. (received-more i (s ∷ []) ∙ ap (λ n. occurs i (all_received b.slices) + n) (occurs-append i (receives b.root) [])) j + (ap (occurs i) (join-receives (op.Receive (length b.slices) b.kinds) scan) ∙ ap (λ l. occurs i (length b.slices ∷ l)) scan-receives) j)
               ∙ one-sent i (length b.slices) (occurs i (all_received b.slices)) (occurs i (receives b.root)) (length (b.slices ++ s ∷ [])) (f.once i) (length-append b.slices (s ∷ []));
           size = size-one s;
           pairs = pairs-more (s ∷ []) (f.root_pairs, tt);
-          root_pairs = join-pass form.stands_over_pairs (op.Receive (length b.slices) b.kinds) scan refl refl refl;
+          root_pairs = join-pass form.stands_over_pairs (op.Receive (length b.slices) b.kinds) scan refl refl scan-pairs;
           root_fine = join-pass op_is_fine (op.Receive (length b.slices) b.kinds) scan (join-own (op.Receive (length b.slices) b.kinds) scan) (receive-fine (length b.slices) b.kinds f.wide) scan-fine;
-          root_count = omega (arith, c);
-          root_kinds = join-kinds (op.Receive (length b.slices) b.kinds) scan refl refl;
+          root_count = omega (arith, c, few);
+          root_kinds = join-kinds (op.Receive (length b.slices) b.kinds) scan refl scan-kinds;
           root_sent = behind-one s (op.Join lk rk (op.Receive (length b.slices) b.kinds) scan)
-              (λ more. join-pass (receives_what_is_sent (b.slices ++ s ∷ more)) (op.Receive (length b.slices) b.kinds) scan refl (sent-first s more b.kinds f.wide f.root_kinds) refl);
+              (λ more. join-pass (receives_what_is_sent (b.slices ++ s ∷ more)) (op.Receive (length b.slices) b.kinds) scan refl (sent-first s more b.kinds f.wide f.root_kinds) (source-sent kinds t tests filter (b.slices ++ s ∷ more)));
           wide = next-wide;
           width = next-width;
         }
@@ -316,24 +407,26 @@ module _ (kinds : ℕ → List Kind) (b : Built) (k : ℕ) (f : Formed kinds b k
           out = out-more (r ∷ s ∷ []) (refl, (refl, tt));
           none = none-more (r ∷ s ∷ []) (refl, (refl, tt));
           fine = fine-more (r ∷ s ∷ []) (λ i. root-slice (motion.Redistribute lk) i && (scan-slice (motion.Redistribute rk) i && true));
-          move = move-more (r ∷ s ∷ []) (λ i. (ap (keys_stand lk) f.root_kinds ∙ left_stand) i && (right_stand i && true));
-          fits = fits-more (r ∷ s ∷ []) (λ i. root-fits (motion.Redistribute lk) i && true);
-          once = λ i. (λ j. (received-more i (r ∷ s ∷ []) ∙ ap (λ n. occurs i (all_received b.slices) + n) (occurs-append i (receives b.root) [])) j + ap (occurs i) (join-receives x y) j)
+          move = move-more (r ∷ s ∷ []) (λ i. (ap (keys_stand lk) f.root_kinds ∙ left_stand) i && ((ap (keys_stand rk) scan-kinds ∙ right_stand) i && true));
+          fits = fits-more (r ∷ s ∷ []) (λ i. root-fits (motion.Redistribute lk) i && (source-fits kinds t tests filter (b.slices ++ r ∷ []) (motion.Redistribute rk) i && true));
+          once = λ i. (λ j. (received-more i (r ∷ s ∷ []) ∙ ap (λ l. occurs i (all_received b.slices) + occurs i (receives b.root ++ (l ++ []))) scan-receives ∙ ap (λ n. occurs i (all_received b.slices) + n) (occurs-append i (receives b.root) [])) j + ap (occurs i) (join-receives x y) j)
               ∙ two-sent i (length b.slices) (occurs i (all_received b.slices)) (occurs i (receives b.root)) (length (b.slices ++ r ∷ s ∷ [])) (f.once i) e;
           size = omega (arith, e, z);
-          pairs = pairs-more (r ∷ s ∷ []) (f.root_pairs, (refl, tt));
+          pairs = pairs-more (r ∷ s ∷ []) (f.root_pairs, (scan-pairs, tt));
           root_pairs = join-pass form.stands_over_pairs x y refl refl refl;
           root_fine = join-pass op_is_fine x y (join-own x y) (receive-fine (length b.slices) b.kinds f.wide) (receive-fine (suc (length b.slices)) (kinds t) table-wide);
           root_count = omega (arith, c);
           root_kinds = join-kinds x y refl refl;
           root_sent = behind-two r s (op.Join lk rk x y)
-              (λ more. join-pass (receives_what_is_sent (b.slices ++ r ∷ s ∷ more)) x y refl (sent-first r (s ∷ more) b.kinds f.wide f.root_kinds) (sent-second r s more (kinds t) table-wide refl));
+              (λ more. join-pass (receives_what_is_sent (b.slices ++ r ∷ s ∷ more)) x y refl (sent-first r (s ∷ more) b.kinds f.wide f.root_kinds) (sent-second r s more (kinds t) table-wide scan-kinds));
           wide = next-wide;
           width = next-width;
         }
 
     pub formed-by : (way : Way) → way_stands way b.kinds (kinds t) lk rk ≡ true → Formed kinds (next way) (suc k)
-    formed-by CopyRight h = formed-copy-right
+    formed-by CopyRight h = formed-right motion.Broadcast refl refl refl
     formed-by CopyLeft h = formed-left motion.Broadcast refl refl refl
     formed-by MoveBoth h = let both : (keys_stand lk (Some b.kinds) ≡ true) × (keys_stand rk (Some (kinds t)) ≡ true) = both_true (keys_stand lk (Some b.kinds)) (keys_stand rk (Some (kinds t))) h in formed-both both.0 both.1
     formed-by MoveLeft h = formed-left (motion.Redistribute lk) refl refl (ap (keys_stand lk) f.root_kinds ∙ h)
+    formed-by MoveRight h = formed-right (motion.Redistribute rk) refl refl (ap (keys_stand rk) scan-kinds ∙ h)
+    formed-by Stay h = formed-stay

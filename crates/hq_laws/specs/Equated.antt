@@ -4,14 +4,14 @@
 --     are_equated kinds conds w js    so it is with the keys of each join
 use Rattle.std.specs.Prelude.{ℕ, ◌+◌, Bool, true, false, not, ◌&&◌, ◌||◌, ◌==◌, nat_lt, List, [], ◌∷◌, length}
 use Rattle.std.specs.List.{list_any}
-use Rattle.hq_value.specs.declared.table.Kind.{Kind}
-use Rattle.hq_algebra.specs.declared.expr.CompareKind.{CompareKind}
-use Rattle.hq_algebra.specs.declared.expr.CompareKind.TheVariants as compare
+use Rattle.hq_value.specs.declared.kind.Kind.{Kind}
+use Rattle.hq_value.specs.declared.operator.CompareKind.{CompareKind}
+use Rattle.hq_value.specs.declared.operator.CompareKind.TheVariants as compare
 use Rattle.hq_algebra.specs.declared.expr.Expr.{Expr, Row_of-Expr, end_of-Expr, more_of-Expr}
 use Rattle.hq_algebra.specs.declared.expr.Expr.TheVariants as expr
 use Rattle.hq_algebra.specs.Rules.{is_empty}
 use Rattle.hq_algebra.specs.Plans.{is_short}
-use Rattle.hq_laws.specs.Spread.{Way, MoveBoth, MoveLeft, Joining}
+use Rattle.hq_laws.specs.Spread.{Way, MoveBoth, MoveLeft, MoveRight, Joining}
 
 -- it is the column at this place
 abbrev pub is_place : ℕ → Expr → Bool
@@ -50,16 +50,17 @@ keys_equated w v conds [] [] = true
 keys_equated w v conds (i ∷ is) (j ∷ js) = (nat_lt i w && (nat_lt j v && list_any (equates i (w + j)) conds)) && keys_equated w v conds is js
 keys_equated w v conds _ _ = false
 
--- the rows before it go to the nodes of their keys
-abbrev pub moves_left : Way → Bool
-moves_left MoveBoth = true
-moves_left MoveLeft = true
-moves_left _ = false
+-- some rows go to the nodes of their keys
+abbrev pub moves_rows : Way → Bool
+moves_rows MoveBoth = true
+moves_rows MoveLeft = true
+moves_rows MoveRight = true
+moves_rows _ = false
 
 -- conditions equate the keys of a join; they are few, and there is one where rows go by them. The rows before it have
 -- w columns
 abbrev pub is_equated : (ℕ → List Kind) → List Expr → ℕ → Joining → Bool
-is_equated kinds conds w j = keys_equated w (length (kinds j.table)) conds j.left_keys j.right_keys && (is_short j.left_keys && (not (moves_left j.way) || not (is_empty j.left_keys)))
+is_equated kinds conds w j = keys_equated w (length (kinds j.table)) conds j.left_keys j.right_keys && (is_short j.left_keys && (not (moves_rows j.way) || not (is_empty j.left_keys)))
 
 -- so it is with each join
 abbrev pub are_equated : (ℕ → List Kind) → List Expr → ℕ → List Joining → Bool

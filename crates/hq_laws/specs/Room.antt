@@ -1,33 +1,21 @@
--- What a well-formed plan has room for.
---     has_room kinds q              the tables, lists and conditions of a query fit into a plan
+-- The keys of joins, and what the slice before the last one sends.
 --     are_joinable kinds left js    the keys of each join fit
 --     kinds_sent kinds q            the kinds of what the slice before the last one sends
 use Rattle.std.specs.Prelude.{ℕ, ◌+◌, Bool, true, not, ◌&&◌, List, [], ◌∷◌, ◌++◌, length, nat_le, Option, Some, is_some, if◌then◌else◌}
 use Rattle.std.specs.List.{list_all}
-use Rattle.hq_value.specs.declared.table.Kind.{Kind}
+use Rattle.hq_value.specs.declared.kind.Kind.{Kind}
 use Rattle.hq_algebra.specs.declared.query.Query.{Query}
 use Rattle.hq_algebra.specs.Rules.{is_empty}
 use Rattle.hq_algebra.specs.Operators.{join_kinds, partial_kinds}
 use Rattle.hq_algebra.specs.Queries.{product_kinds}
 use Rattle.hq_algebra.specs.Plans.{is_short, keys_stand}
-use Rattle.hq_laws.specs.Spread.{Way, MoveBoth, MoveLeft, Joining}
-
--- a table has 1 to 64 columns
-abbrev pub is_table : List Kind → Bool
-is_table kinds = nat_le 1 (length kinds) && nat_le (length kinds) 64
-
--- conditions, HAVING among them, that leave a slice room for its other operators
-abbrev pub are_few : Query → Bool
-are_few q = nat_le (length q.conds + length q.having) 44
-
--- the tables of a query have columns, its lists are short, and its conditions are few
-abbrev pub has_room : (ℕ → List Kind) → Query → Bool
-has_room kinds q = list_all (λ t. is_table (kinds t)) q.sources && (are_few q && (is_short q.groups && (is_short q.aggregates && is_short q.order)))
+use Rattle.hq_laws.specs.Spread.{Way, MoveBoth, MoveLeft, MoveRight, Joining}
 
 -- the two sides of a join have keys of the same kinds, and a motion by keys has a key
 abbrev pub way_stands : Way → List Kind → List Kind → List ℕ → List ℕ → Bool
 way_stands MoveBoth left right lk rk = keys_stand lk (Some left) && keys_stand rk (Some right)
 way_stands MoveLeft left right lk rk = keys_stand lk (Some left)
+way_stands MoveRight left right lk rk = keys_stand rk (Some right)
 way_stands _ left right lk rk = true
 
 abbrev pub is_joinable : List Kind → List Kind → Joining → Bool

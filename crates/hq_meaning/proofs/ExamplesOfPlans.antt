@@ -3,7 +3,7 @@ use Rattle.std.proofs.Common.{◌≡◌, ◌≢◌, ℕ, zero, suc, ◌==◌, Li
 use Rattle.hq_value.specs.declared.value.Value.{Value}
 use Rattle.hq_value.specs.declared.value.Value.TheVariants as value
 use Rattle.hq_value.specs.Bucket.{bucket_of}
-use Rattle.hq_algebra.specs.declared.expr.CompareKind.TheVariants as compare
+use Rattle.hq_value.specs.declared.operator.CompareKind.TheVariants as compare
 use Rattle.hq_algebra.specs.declared.aggregate.Aggregate.TheVariants as agg
 use Rattle.hq_algebra.specs.declared.expr.Expr.TheVariants as e
 use Rattle.hq_algebra.specs.declared.op.Op.TheVariants as op

@@ -10,7 +10,6 @@ ghost use Rattle.hq_ops.specs.Sources.{read_by, faults_by};
 use crate::end::Stop;
 use crate::source::Source;
 use hq_value::{Row, Value, compare_values};
-use std::alloc::Global;
 use std::cmp::Ordering;
 
 /// Which value is sought.
@@ -50,13 +49,13 @@ fn compare_falling(a: &Value, b: &Value) -> Ordering
 }
 
 /// The least or the greatest of what is read of rows, NULL where nothing else is.
-pub fn best(alloc: Global, extreme: Extreme, source: &Source, rows: &[&Row]) -> Result<Value, Stop>
+pub fn best(extreme: Extreme, source: &Source, rows: &[&Row]) -> Result<Value, Stop>
     ensures best { IfOk result (λ best. best ≡ first_of (order_of extreme) (map (read_by source.now) (the_rows rows.now))) }
     ensures numeric { StopsAt result (list_any (faults_by source.now) (the_rows rows.now)) }
 {
     let mut best = Value::Null;
     for row in rows {
-        let value = source.read(alloc, row)?;
+        let value = source.read(row)?;
         best = extreme.sooner(best, value);
     }
     Ok(best)

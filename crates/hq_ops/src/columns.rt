@@ -17,7 +17,6 @@ use crate::source::Source;
 use crate::sum::sum;
 use hq_algebra::{Aggregate, Expr};
 use hq_value::{NoMemory, Row, Value};
-use std::alloc::Global;
 
 /// One value, or the two halves of a sum.
 #[derive(Debug, Drop)]
@@ -28,8 +27,8 @@ pub enum Parts {
 
 impl Parts {
     /// Adds the columns to a row.
-    pub fn push_to(self, row: &mut Vec<Value>) -> Result<(), NoMemory>
-        ensures { OnOk result (row.new.items ≡ row.old.items ++ listed self) }
+    pub fn push_to(self, row: &mut Row) -> Result<(), NoMemory>
+        ensures { OnOk result (row.new ≡ row.old ++ listed self) }
     {
         match self {
             Parts::One(value) => row.push(value)?,
@@ -43,44 +42,44 @@ impl Parts {
 }
 
 /// The columns of an aggregate over the rows of a group.
-pub fn columns(alloc: Global, aggregate: &Aggregate, rows: &[&Row]) -> Result<Parts, Stop>
+pub fn columns(aggregate: &Aggregate, rows: &[&Row]) -> Result<Parts, Stop>
     requires { length rows.now < 2 ^ 63 }
     ensures columns { IfOk result (λ columns. listed columns ≡ columns_of aggregate.now (over aggregate.now (map (added aggregate.now) (the_rows rows.now)))) }
     ensures numeric { StopsAt result (list_any (argument_faults aggregate.now) (the_rows rows.now)) }
 {
     match aggregate {
         Aggregate::CountAll => Ok(Parts::One(Value::Int(rows.len() as i64))),
-        Aggregate::Count(e) => counted(alloc, e, rows),
-        Aggregate::Sum(e) => summed(alloc, e, rows),
-        Aggregate::Min(e) => sought(alloc, Extreme::Least, e, rows),
-        Aggregate::Max(e) => sought(alloc, Extreme::Greatest, e, rows),
+        Aggregate::Count(e) => counted(e, rows),
+        Aggregate::Sum(e) => summed(e, rows),
+        Aggregate::Min(e) => sought(Extreme::Least, e, rows),
+        Aggregate::Max(e) => sought(Extreme::Greatest, e, rows),
     }
 }
 
-fn counted(alloc: Global, e: &Expr, rows: &[&Row]) -> Result<Parts, Stop>
+fn counted(e: &Expr, rows: &[&Row]) -> Result<Parts, Stop>
     requires { length rows.now < 2 ^ 63 }
     ensures columns { IfOk result (λ columns. listed columns ≡ columns_of (Aggregate.Count e.now) (over (Aggregate.Count e.now) (map (added (Aggregate.Count e.now)) (the_rows rows.now)))) }
     ensures numeric { StopsAt result (list_any (argument_faults (Aggregate.Count e.now)) (the_rows rows.now)) }
 {
-    let count = count(alloc, e, rows)?;
+    let count = count(e, rows)?;
     Ok(Parts::One(Value::Int(count as i64)))
 }
 
-fn summed(alloc: Global, e: &Expr, rows: &[&Row]) -> Result<Parts, Stop>
+fn summed(e: &Expr, rows: &[&Row]) -> Result<Parts, Stop>
     requires { length rows.now < 2 ^ 63 }
     ensures columns { IfOk result (λ columns. listed columns ≡ columns_of (Aggregate.Sum e.now) (over (Aggregate.Sum e.now) (map (added (Aggregate.Sum e.now)) (the_rows rows.now)))) }
     ensures numeric { StopsAt result (list_any (argument_faults (Aggregate.Sum e.now)) (the_rows rows.now)) }
 {
-    let sum = sum(alloc, &Source::Of(e), rows)?;
+    let sum = sum(&Source::Of(e), rows)?;
     Ok(halves(sum))
 }
 
 // The least or the greatest value.
-fn sought(alloc: Global, extreme: Extreme, e: &Expr, rows: &[&Row]) -> Result<Parts, Stop>
+fn sought(extreme: Extreme, e: &Expr, rows: &[&Row]) -> Result<Parts, Stop>
     ensures columns { IfOk result (λ columns. listed columns ≡ first_of (order_of extreme) (map (value_at e.now) (the_rows rows.now)) ∷ []) }
     ensures numeric { StopsAt result (list_any (faults_at e.now) (the_rows rows.now)) }
 {
-    let best = best(alloc, extreme, &Source::Of(e), rows)?;
+    let best = best(extreme, &Source::Of(e), rows)?;
     Ok(Parts::One(best))
 }
 

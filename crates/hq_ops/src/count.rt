@@ -11,17 +11,16 @@ use crate::end::Stop;
 use crate::project::value;
 use hq_algebra::{Aggregate, Expr};
 use hq_value::{Row, Value};
-use std::alloc::Global;
 
 /// Over how many rows the expression is not NULL.
-pub fn count(alloc: Global, e: &Expr, rows: &[&Row]) -> Result<usize, Stop>
+pub fn count(e: &Expr, rows: &[&Row]) -> Result<usize, Stop>
     ensures count { IfOk result (λ n. aggregate_of (Aggregate.Count e.now) (the_rows rows.now) ≡ Value.Int (pos n)) }
     ensures most { IfOk result (λ n. n ≤ length rows.now) }
     ensures numeric { StopsAt result (list_any (faults_at e.now) (the_rows rows.now)) }
 {
     let mut count = 0usize;
     for row in rows {
-        let value = value(alloc, e, row)?;
+        let value = value(e, row)?;
         count += one_for(&value);
     }
     Ok(count)

@@ -17,7 +17,7 @@ use crate::halves::sum_halves;
 use crate::source::Source;
 use crate::sum::sum;
 use hq_algebra::{Aggregate, Aggregates};
-use hq_value::{Row, Sequence, Value};
+use hq_value::{Row, Value};
 use std::alloc::Global;
 
 /// Groups partial rows by so many of their first columns, by first appearance, NULLs being equal: the keys and the
@@ -60,18 +60,18 @@ fn final_row(
     ensures row { IfOk result (λ row. row ≡ key.now ++ final_values aggregates.now columns (the_rows rows.now.items)) }
     ensures numeric { StopsAt result (value_leaves aggregates.now columns (the_rows rows.now.items)) }
 {
-    let mut values = key.copy(alloc)?.into_vec();
+    let mut values = key.copy(alloc)?;
     let mut at = columns as usize;
     for aggregate in aggregates {
         // No list in memory is so long that the sum does not fit.
         let Some(next) = at.checked_add(width(aggregate)) else {
             return Err(Stop::NoMemory);
         };
-        let value = final_value(alloc, aggregate, at, rows.as_slice())?;
+        let value = final_value(aggregate, at, rows.as_slice())?;
         values.push(value)?;
         at = next;
     }
-    Ok(Sequence::from_vec(values))
+    Ok(values)
 }
 
 // How many columns of a partial row are the aggregate's.
@@ -85,32 +85,27 @@ fn width(aggregate: &Aggregate) -> usize
 }
 
 // The value of an aggregate whose columns begin at a place.
-fn final_value(
-    alloc: Global,
-    aggregate: &Aggregate,
-    at: usize,
-    rows: &[&Row],
-) -> Result<Value, Stop>
+fn final_value(aggregate: &Aggregate, at: usize, rows: &[&Row]) -> Result<Value, Stop>
     requires place { at + spec.width aggregate.now < 2 ^ 64 }
     requires few { length rows.now < 2 ^ 63 }
     ensures value { IfOk result (λ value. value ≡ spec.final_value aggregate.now at (the_rows rows.now)) }
     ensures numeric { StopsAt result (leaves_64 aggregate.now (spec.final_value aggregate.now at (the_rows rows.now))) }
 {
     match aggregate {
-        Aggregate::CountAll | Aggregate::Count(_) => final_count(alloc, at, rows),
+        Aggregate::CountAll | Aggregate::Count(_) => final_count(at, rows),
         Aggregate::Sum(_) => final_sum(at, rows),
-        Aggregate::Min(_) => best(alloc, Extreme::Least, &Source::At(at), rows),
-        Aggregate::Max(_) => best(alloc, Extreme::Greatest, &Source::At(at), rows),
+        Aggregate::Min(_) => best(Extreme::Least, &Source::At(at), rows),
+        Aggregate::Max(_) => best(Extreme::Greatest, &Source::At(at), rows),
     }
 }
 
 // A count over no row is 0.
-fn final_count(alloc: Global, at: usize, rows: &[&Row]) -> Result<Value, Stop>
+fn final_count(at: usize, rows: &[&Row]) -> Result<Value, Stop>
     requires { length rows.now < 2 ^ 63 }
     ensures value { IfOk result (λ value. value ≡ or_zero (total (map (λ row. column row at) (the_rows rows.now)))) }
     ensures numeric { StopsAt result (is_out (or_zero (total (map (λ row. column row at) (the_rows rows.now))))) }
 {
-    match sum(alloc, &Source::At(at), rows)? {
+    match sum(&Source::At(at), rows)? {
         Some(count) => match i64::try_from(count) {
             Ok(count) => Ok(Value::Int(count)),
             Err(_) => Err(Stop::Numeric),

@@ -4,7 +4,7 @@ ghost use Rattle.hq_algebra.specs.Eval.{column};
 ghost use Rattle.hq_meaning.specs.Groups.{key_of};
 ghost use Rattle.hq_ops.specs.Grouping.{key_by, width_by, groups_of, IsGrouping, IsFullGrouping};
 
-use hq_value::{NoMemory, Row, Sequence, Value};
+use hq_value::{NoMemory, Row, Value};
 use indexmap::IndexSet;
 use std::alloc::Global;
 
@@ -23,11 +23,11 @@ pub struct Groups<'a> {
 }
 
 /// The value at a place; NULL past the end, where no column of a plan is.
-pub fn copy_column(alloc: Global, row: &Row, place: usize) -> Result<Value, NoMemory>
+pub fn copy_column(row: &Row, place: usize) -> Result<Value, NoMemory>
     ensures { IfOk result (λ value. value ≡ column row.now place) }
 {
     match row.as_slice().get(place) {
-        Some(value) => value.copy(alloc),
+        Some(value) => value.copy(),
         None => Ok(Value::Null),
     }
 }
@@ -36,11 +36,11 @@ pub fn copy_column(alloc: Global, row: &Row, place: usize) -> Result<Value, NoMe
 pub fn key_row(alloc: Global, places: &[u16], row: &Row) -> Result<Row, NoMemory>
     ensures { IfOk result (λ key. key ≡ key_of places.now row.now) }
 {
-    let mut values = Vec::with_capacity(alloc, places.len())?;
+    let mut values = Row::with_capacity(alloc, places.len())?;
     for place in places {
-        values.push(copy_column(alloc, row, *place as usize)?)?;
+        values.push(copy_column(row, *place as usize)?)?;
     }
-    Ok(Sequence::from_vec(values))
+    Ok(values)
 }
 
 // The first values of a row.
@@ -49,11 +49,11 @@ fn first_values(alloc: Global, count: u16, row: &Row) -> Result<Row, NoMemory>
 {
     let values = row.as_slice();
     let count = values.len().min(count as usize);
-    let mut key = Vec::with_capacity(alloc, count)?;
+    let mut key = Row::with_capacity(alloc, count)?;
     for value in &values[..count] {
-        key.push(value.copy(alloc)?)?;
+        key.push(value.copy()?)?;
     }
-    Ok(Sequence::from_vec(key))
+    Ok(key)
 }
 
 impl GroupBy<'_> {

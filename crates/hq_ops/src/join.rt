@@ -9,7 +9,7 @@ ghost use Rattle.hq_ops.specs.Grouping.{the_rows, groups_of, IsGrouping, has_nul
 use crate::OpEnd;
 use crate::groups::{GroupBy, Groups, group, key_row};
 use hq_algebra::Keys16;
-use hq_value::{NoMemory, Row, Sequence, Value};
+use hq_value::{NoMemory, Row, Value};
 use std::alloc::Global;
 
 /// The pairs whose keys are all equal and not NULL, by left row and then by right row. The left columns come first.
@@ -106,17 +106,17 @@ fn push_beside(
 fn pair(alloc: Global, left: &Row, right: &Row) -> Result<Row, NoMemory>
     ensures { IfOk result (λ row. row ≡ left.now ++ right.now) }
 {
-    let mut values = Vec::with_capacity(alloc, left.len().saturating_add(right.len()))?;
-    push_copies(alloc, left.as_slice(), &mut values)?;
-    push_copies(alloc, right.as_slice(), &mut values)?;
-    Ok(Sequence::from_vec(values))
+    let mut values = Row::with_capacity(alloc, left.len().saturating_add(right.len()))?;
+    push_copies(left.as_slice(), &mut values)?;
+    push_copies(right.as_slice(), &mut values)?;
+    Ok(values)
 }
 
-fn push_copies(alloc: Global, values: &[Value], row: &mut Vec<Value>) -> Result<(), NoMemory>
-    ensures { OnOk result (row.new.items ≡ row.old.items ++ values.now) }
+fn push_copies(values: &[Value], row: &mut Row) -> Result<(), NoMemory>
+    ensures { OnOk result (row.new ≡ row.old ++ values.now) }
 {
     for value in values {
-        row.push(value.copy(alloc)?)?;
+        row.push(value.copy()?)?;
     }
     Ok(())
 }

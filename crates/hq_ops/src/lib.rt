@@ -25,6 +25,3 @@ pub use join::join_rows;
 pub use partial::partial_rows;
 pub use project::project_rows;
 pub use sort::sort_rows;
-
-#[cfg(test)]
-mod tests;

@@ -12,7 +12,7 @@ use crate::columns::columns;
 use crate::end::Stop;
 use crate::groups::{GroupBy, group_all};
 use hq_algebra::{Aggregate, Aggregates, Keys16};
-use hq_value::{Row, Sequence};
+use hq_value::Row;
 use std::alloc::Global;
 
 /// Groups by keys, by first appearance, NULLs being equal: the keys and the columns of each aggregate. Without keys
@@ -55,10 +55,10 @@ fn partial_row(
     ensures row { IfOk result (λ row. row ≡ key.now ++ flat_map (λ a. columns_of a (over a (map (added a) (the_rows rows.now.items)))) aggregates.now) }
     ensures numeric { StopsAt result (list_any (λ a. list_any (argument_faults a) (the_rows rows.now.items)) aggregates.now) }
 {
-    let mut values = key.copy(alloc)?.into_vec();
+    let mut values = key.copy(alloc)?;
     for aggregate in aggregates {
-        let columns = columns(alloc, aggregate, rows.as_slice())?;
+        let columns = columns(aggregate, rows.as_slice())?;
         columns.push_to(&mut values)?;
     }
-    Ok(Sequence::from_vec(values))
+    Ok(values)
 }

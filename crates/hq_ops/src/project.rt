@@ -8,7 +8,7 @@ ghost use Rattle.hq_ops.specs.Ends.{Gives, IsNumericAt, StopsAt};
 use crate::OpEnd;
 use crate::end::Stop;
 use hq_algebra::{Evaluated, Expr, Exprs, eval};
-use hq_value::{Row, Sequence, Value};
+use hq_value::{Row, Value};
 use std::alloc::Global;
 
 /// The values of the items over each row, in order. Numeric where one of them faults over some row.
@@ -34,19 +34,19 @@ fn values(alloc: Global, items: &[Expr], row: &Row) -> Result<Row, Stop>
     ensures values { IfOk result (λ values. values ≡ map (λ e. value_at e row.now) items.now) }
     ensures numeric { StopsAt result (list_any (λ e. faults_at e row.now) items.now) }
 {
-    let mut values = Vec::with_capacity(alloc, items.len())?;
+    let mut values = Row::with_capacity(alloc, items.len())?;
     for item in items {
-        values.push(value(alloc, item, row)?)?;
+        values.push(value(item, row)?)?;
     }
-    Ok(Sequence::from_vec(values))
+    Ok(values)
 }
 
 /// The value of an expression over a row.
-pub fn value(alloc: Global, e: &Expr, row: &Row) -> Result<Value, Stop>
+pub fn value(e: &Expr, row: &Row) -> Result<Value, Stop>
     ensures value { IfOk result (λ value. value ≡ value_at e.now row.now) }
     ensures numeric { StopsAt result (faults_at e.now row.now) }
 {
-    match eval(alloc, e, row) {
+    match eval(e, row) {
         Evaluated::Is(value) => Ok(value),
         Evaluated::Fault => Err(Stop::Numeric),
         Evaluated::NoMemory => Err(Stop::NoMemory),

@@ -23,11 +23,11 @@ struct Keyed {
 
 /// The rows by the keys, each ascending, or descending in the reverse of value order, so with NULL first. Ties go by
 /// row order. Where there is a limit, so many of the first.
-pub fn sort_rows(order: &SortKeys, limit: Option<u64>, rows: Vec<Row>) -> OpEnd
+pub fn sort_rows(alloc: Global, order: &SortKeys, limit: Option<u64>, rows: Vec<Row>) -> OpEnd
     ensures rows { Gives result (sorted order.now limit rows.items) }
     ensures numeric { IsNumericAt result false }
 {
-    match sort(order.as_slice(), rows) {
+    match sort(alloc, order.as_slice(), rows) {
         Ok(rows) => {
             let mut rows = rows;
             if let Some(limit) = limit {
@@ -39,23 +39,27 @@ pub fn sort_rows(order: &SortKeys, limit: Option<u64>, rows: Vec<Row>) -> OpEnd
     }
 }
 
-fn sort(order: &[SortKey], rows: Vec<Row>) -> Result<Vec<Row>, NoMemory>
+fn sort(alloc: Global, order: &[SortKey], rows: Vec<Row>) -> Result<Vec<Row>, NoMemory>
     ensures { IfOk result (λ found. found.items ≡ ordered order.now rows.items) }
 {
     match order {
-        [first, rest @ ..] => sort_by_keys(*first, rest, rows),
+        [first, rest @ ..] => sort_by_keys(alloc, *first, rest, rows),
         [] => {
             let mut rows = rows;
-            sort_in_row_order(&mut rows)?;
+            sort_in_row_order(&mut rows);
             Ok(rows)
         }
     }
 }
 
-fn sort_by_keys(first: SortKey, rest: &[SortKey], rows: Vec<Row>) -> Result<Vec<Row>, NoMemory>
+fn sort_by_keys(
+    alloc: Global,
+    first: SortKey,
+    rest: &[SortKey],
+    rows: Vec<Row>,
+) -> Result<Vec<Row>, NoMemory>
     ensures { IfOk result (λ found. found.items ≡ ordered (first ∷ rest.now) rows.items) }
 {
-    let alloc = *rows.allocator();
     let mut keyed = with_keys(alloc, first.column, rows)?;
     keyed.sort_by(|a: &Keyed, b: &Keyed| compare_keyed(first, rest, a, b))?;
     rows_of(alloc, keyed)
@@ -66,7 +70,7 @@ fn with_keys(alloc: Global, place: u16, rows: Vec<Row>) -> Result<Vec<Keyed>, No
 {
     let mut keyed = Vec::with_capacity(alloc, rows.len())?;
     for row in rows {
-        let first = copy_column(alloc, &row, place as usize)?;
+        let first = copy_column(&row, place as usize)?;
         keyed.push(Keyed { first, row })?;
     }
     Ok(keyed)

@@ -8,7 +8,6 @@ use crate::groups::copy_column;
 use crate::project::value;
 use hq_algebra::Expr;
 use hq_value::{Row, Value};
-use std::alloc::Global;
 
 /// The value of an expression, or that of a column.
 #[derive(Clone, Copy)]
@@ -18,13 +17,13 @@ pub enum Source<'a> {
 }
 
 impl Source<'_> {
-    pub fn read(&self, alloc: Global, row: &Row) -> Result<Value, Stop>
+    pub fn read(&self, row: &Row) -> Result<Value, Stop>
         ensures value { IfOk result (λ value. value ≡ read_by self.now row.now) }
         ensures numeric { StopsAt result (faults_by self.now row.now) }
     {
         match self {
-            Source::Of(e) => value(alloc, e, row),
-            Source::At(place) => Ok(copy_column(alloc, row, *place)?),
+            Source::Of(e) => value(e, row),
+            Source::At(place) => Ok(copy_column(row, *place)?),
         }
     }
 }

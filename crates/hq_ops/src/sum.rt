@@ -10,10 +10,9 @@ ghost use Rattle.hq_ops.specs.Sources.{read_by, faults_by};
 use crate::end::Stop;
 use crate::source::Source;
 use hq_value::{Row, Value};
-use std::alloc::Global;
 
 /// The sum of the numbers that are read of rows, if there is one.
-pub fn sum(alloc: Global, source: &Source, rows: &[&Row]) -> Result<Option<i128>, Stop>
+pub fn sum(source: &Source, rows: &[&Row]) -> Result<Option<i128>, Stop>
     requires { length rows.now < 2 ^ 63 }
     ensures sum { IfOk result (λ sum. from_number sum ≡ total (map (read_by source.now) (the_rows rows.now))) }
     ensures within { IfOk result (IsWithin (2 ^ 63 * length rows.now)) }
@@ -21,7 +20,7 @@ pub fn sum(alloc: Global, source: &Source, rows: &[&Row]) -> Result<Option<i128>
 {
     let mut sum = None;
     for row in rows {
-        let value = source.read(alloc, row)?;
+        let value = source.read(row)?;
         sum = with_value(sum, &value);
     }
     Ok(sum)

@@ -1,5 +1,5 @@
 use Rattle.std.proofs.Common.{◌∙◌, ap}
-use Rattle.hq_value.specs.declared.table.Kind.TheVariants as kind
+use Rattle.hq_value.specs.declared.kind.Kind.TheVariants as kind
 use Rattle.hq_algebra.specs.Kinds.{kind_if, is_of, has_kind}
 use Rattle.hq_algebra.proofs.Typed.{asked, alike, same_asked, expr_kind-Arith, expr_kind-Compare, expr_kind-And, expr_kind-Or, expr_kind-Not, expr_kind-IsNull}
 use Rattle.hq_algebra.proofs.kinds.+expr_kind.Goals as goal

@@ -1,6 +1,6 @@
 use Rattle.std.proofs.Common.{List, Err}
 use Rattle.std.proofs.lemmas.Result.{err_from_is_err_and}
-use Rattle.hq_value.specs.declared.table.Kind.{Kind}
+use Rattle.hq_value.specs.declared.kind.Kind.{Kind}
 use Rattle.hq_algebra.specs.Kinds.{◌>>=◌}
 use Rattle.hq_algebra.specs.Operators.{op_kinds, filter_kinds, items_kinds, join_kinds, partial_kinds, final_kinds, sort_kinds}
 use Rattle.hq_algebra.proofs.Inputs.{gives-err, gives-ok, op_kinds-Filter, op_kinds-Project, op_kinds-Join, op_kinds-Partial, op_kinds-Final, op_kinds-Distinct, op_kinds-Sort}
@@ -31,7 +31,7 @@ returns-in_err-kinds-in-Partial t c =
 
 pub returns-in_ok-kinds-in-Partial : goal.returns-in_ok-kinds-in-Partial
 returns-in_ok-kinds-in-Partial t c =
-    rw (c.in-Partial.is, op_kinds-Partial) (gives-ok c.partial.result (op_kinds c.in-Partial.input) (partial_kinds c.in-Partial.keys c.in-Partial.aggregates) c.in_ok-kinds-in-Partial.kinds (rw c.get-in-Partial.ensures at c.in_ok-kinds-in-Partial.ensures) (rw (c.as_slice-in-Partial.ensures, c.as_slice-in-Partial-2.ensures, c.as_slice-in-Partial-3.ensures) at c.partial.ensures))
+    rw (c.in-Partial.is, op_kinds-Partial) (gives-ok c.partial_kinds.result (op_kinds c.in-Partial.input) (partial_kinds c.in-Partial.keys c.in-Partial.aggregates) c.in_ok-kinds-in-Partial.kinds (rw c.get-in-Partial.ensures at c.in_ok-kinds-in-Partial.ensures) (rw (c.as_slice-in-Partial.ensures, c.as_slice-in-Partial-2.ensures, c.as_slice-in-Partial-3.ensures) at c.partial_kinds.ensures))
 
 pub returns-in_err-kinds-in-Final : goal.returns-in_err-kinds-in-Final
 returns-in_err-kinds-in-Final t c =

@@ -7,6 +7,6 @@ use Rattle.hq_ops.proofs.partial.partial_row.Given as goal
 
 abbrev pub invariant-loop-aggregate : goal.invariant-loop-aggregate
 invariant-loop-aggregate l = record {
-  values : l.values.items ≡ l.key ++ flat_map (λ a. columns_of a (over a (map (added a) (the_rows l.rows.items)))) (take l.aggregate-index l.aggregates);
+  values : l.values ≡ l.key ++ flat_map (λ a. columns_of a (over a (map (added a) (the_rows l.rows.items)))) (take l.aggregate-index l.aggregates);
   none : list_any (λ a. list_any (argument_faults a) (the_rows l.rows.items)) (take l.aggregate-index l.aggregates) ≡ false;
 }

@@ -5,6 +5,6 @@ use Rattle.hq_ops.proofs.project.values.Given as goal
 
 abbrev pub invariant-loop-item : goal.invariant-loop-item
 invariant-loop-item l = record {
-  values : l.values.items ≡ map (λ e. value_at e l.row) (take l.item-index l.items);
+  values : l.values ≡ map (λ e. value_at e l.row) (take l.item-index l.items);
   none : list_any (λ e. faults_at e l.row) (take l.item-index l.items) ≡ false;
 }

@@ -1,0 +1,2 @@
+pub mod Assign
+pub mod Planned

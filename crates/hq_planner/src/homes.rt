@@ -1,0 +1,116 @@
+//! The keys by which rows are known to lie on the nodes.
+ghost use Rattle.std.specs.Prelude.{◌≡◌, ◌≤◌, ◌∷◌, [], IfOk, IsTrue, map};
+ghost use Rattle.hq_value.specs.Tables.{all_below};
+ghost use Rattle.hq_laws.specs.Placed as spec;
+ghost use Rattle.hq_planner.specs.Choices.{way_of};
+
+use crate::step::{Step, Way};
+use hq_algebra::{Keys16, copy_keys};
+use hq_value::NoMemory;
+use std::alloc::Global;
+
+/// Lists of columns: by each of them the rows lie on the nodes that own their buckets.
+pub type Homes = Vec<Keys16>;
+
+/// A table lies by its own keys, if it has some.
+pub fn own_homes(alloc: Global, columns: u16, own: &[u16]) -> Result<Homes, NoMemory>
+    requires { IsTrue (all_below columns own.now) }
+    ensures { IfOk result (λ homes. homes.items ≡ spec.own_homes columns own.now) }
+{
+    if own.is_empty() {
+        return Ok(Vec::new(alloc));
+    }
+    let keys = copy_keys(alloc, own)?;
+    one_home(alloc, keys)
+}
+
+fn one_home(alloc: Global, keys: Keys16) -> Result<Homes, NoMemory>
+    ensures { IfOk result (λ homes. homes.items ≡ keys ∷ []) }
+{
+    let mut homes = Vec::new(alloc);
+    homes.push(keys)?;
+    Ok(homes)
+}
+
+/// The keys by which rows lie after a step: the rows before it have `width` columns and lie by `homes`, its table has
+/// `columns` and keys of its own.
+pub fn homes_after(
+    alloc: Global,
+    step: &Step,
+    width: u16,
+    columns: u16,
+    own: &[u16],
+    homes: Homes,
+) -> Result<Homes, NoMemory>
+    requires width { width ≤ 512 }
+    requires columns { columns ≤ 64 }
+    requires own { IsTrue (all_below columns own.now) }
+    requires keys { IsTrue (all_below columns step.now.right_keys) }
+    ensures { IfOk result (λ after. after.items ≡ spec.homes_after (way_of step.now.way) width columns own.now step.now.left_keys step.now.right_keys homes.items) }
+{
+    match step.way {
+        Way::CopyRight => Ok(homes),
+        Way::CopyLeft => further_own(alloc, width, columns, own),
+        Way::MoveBoth => both_homes(alloc, step, width, columns),
+        Way::MoveLeft => both_homes(alloc, step, width, columns),
+        Way::MoveRight => one_more(alloc, step, width, columns, homes),
+        Way::Stay => one_more(alloc, step, width, columns, homes),
+    }
+}
+
+fn further_own(alloc: Global, width: u16, columns: u16, own: &[u16]) -> Result<Homes, NoMemory>
+    requires width { width ≤ 512 }
+    requires columns { columns ≤ 64 }
+    requires own { IsTrue (all_below columns own.now) }
+    ensures { IfOk result (λ homes. homes.items ≡ map (spec.further width) (spec.own_homes columns own.now)) }
+{
+    if own.is_empty() {
+        return Ok(Vec::new(alloc));
+    }
+    let keys = further(alloc, width, columns, own)?;
+    one_home(alloc, keys)
+}
+
+fn both_homes(alloc: Global, step: &Step, width: u16, columns: u16) -> Result<Homes, NoMemory>
+    requires width { width ≤ 512 }
+    requires columns { columns ≤ 64 }
+    requires keys { IsTrue (all_below columns step.now.right_keys) }
+    ensures { IfOk result (λ homes. homes.items ≡ step.now.left_keys ∷ spec.further width step.now.right_keys ∷ []) }
+{
+    let left = copy_keys(alloc, step.left_keys.as_slice())?;
+    let right = further(alloc, width, columns, step.right_keys.as_slice())?;
+    let mut homes = one_home(alloc, left)?;
+    homes.push(right)?;
+    Ok(homes)
+}
+
+fn one_more(
+    alloc: Global,
+    step: &Step,
+    width: u16,
+    columns: u16,
+    mut homes: Homes,
+) -> Result<Homes, NoMemory>
+    requires width { width ≤ 512 }
+    requires columns { columns ≤ 64 }
+    requires keys { IsTrue (all_below columns step.now.right_keys) }
+    ensures { IfOk result (λ after. after.items ≡ spec.further width step.now.right_keys ∷ homes.items) }
+{
+    let keys = further(alloc, width, columns, step.right_keys.as_slice())?;
+    homes.insert(0, keys)?;
+    Ok(homes)
+}
+
+// The same keys where `width` columns stand before them.
+fn further(alloc: Global, width: u16, columns: u16, keys: &[u16]) -> Result<Keys16, NoMemory>
+    requires width { width ≤ 512 }
+    requires columns { columns ≤ 64 }
+    requires keys { IsTrue (all_below columns keys.now) }
+    ensures { IfOk result (λ further. further ≡ spec.further width keys.now) }
+{
+    let mut further = Keys16::new(alloc);
+    for key in keys {
+        further.push(width + *key)?;
+    }
+    Ok(further)
+}

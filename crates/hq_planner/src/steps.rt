@@ -1,0 +1,84 @@
+//! The further sources of a query, each with its keys and its way.
+ghost use Rattle.std.specs.Prelude.{◌≡◌, ◌≤◌, ◌<◌, IfOk, IsTrue, length, map, drop, slice_index};
+ghost use Rattle.hq_value.specs.Tables.{all_below};
+ghost use Rattle.hq_laws.specs.Placed as placed;
+ghost use Rattle.hq_planner.specs.Tables as tables;
+ghost use Rattle.hq_planner.specs.Choices.{way_of, stands_by, all_stand};
+
+use crate::checking::stands;
+use crate::choosing::{Meeting, preferred, size_of, without_keys};
+use crate::homes::{homes_after, own_homes};
+use crate::step::{Step, Way};
+use crate::tables::{own_keys, width_of};
+use hq_algebra::{Expr, Query};
+use hq_value::{NoMemory, TableDef};
+use std::alloc::Global;
+
+/// The further sources in order. Each step may be taken where those before it were.
+pub fn steps(
+    alloc: Global,
+    query: &Query,
+    defs: &[(u32, TableDef)],
+    sizes: &[u128],
+) -> Result<Vec<Step>, NoMemory>
+    ensures tables { IfOk result (λ steps. map (λ s. s.table) steps.items ≡ drop 1 query.now.sources) }
+    ensures stand { IfOk result (λ steps. IsTrue (all_stand (tables.kinds_by defs.now) (tables.keys_by defs.now) query.now.conds (length (tables.kinds_by defs.now (slice_index query.now.sources 0))) (placed.own_homes (length (tables.kinds_by defs.now (slice_index query.now.sources 0))) (tables.keys_by defs.now (slice_index query.now.sources 0))) steps.items)) }
+{
+    let conds = query.conds.as_slice();
+    let sources = query.sources.as_slice();
+    let mut steps = Vec::new(alloc);
+    let mut width = width_of(defs, sources[0]);
+    let mut size = size_of(defs, sizes, sources[0]);
+    let own = own_keys(alloc, defs, sources[0])?;
+    let mut homes = own_homes(alloc, width, own.as_slice())?;
+    for i in 1..sources.len() {
+        let table = sources[i];
+        let own = own_keys(alloc, defs, table)?;
+        let columns = width_of(defs, table);
+        let table_size = size_of(defs, sizes, table);
+        let meeting = Meeting {
+            table,
+            width,
+            columns,
+            own: own.as_slice(),
+            homes: homes.as_slice(),
+            size,
+            table_size,
+        };
+        let step = chosen(alloc, conds, meeting)?;
+        let next = homes_after(alloc, &step, width, columns, own.as_slice(), homes)?;
+        homes = next;
+        width += columns;
+        size = size_after(size, table_size, step.left_keys.is_empty());
+        steps.push(step)?;
+    }
+    Ok(steps)
+}
+
+fn size_after(size: u128, table_size: u128, no_keys: bool) -> u128 {
+    if no_keys {
+        return size.saturating_mul(table_size);
+    }
+    size.max(table_size)
+}
+
+// The preferred step where it may be taken; it always should, and else a copy stands in its place.
+fn chosen(alloc: Global, conds: &[Expr], meeting: Meeting) -> Result<Step, NoMemory>
+    requires width { meeting.width ≤ 512 }
+    requires columns { meeting.columns ≤ 64 }
+    ensures table { IfOk result (λ step. step.table ≡ meeting.entry.table) }
+    ensures stands { IfOk result (λ step. IsTrue (stands_by meeting.entry.width meeting.entry.columns meeting.entry.own.now conds.now meeting.entry.homes.now step)) }
+{
+    let step = preferred(alloc, conds, meeting)?;
+    if stands(
+        conds,
+        meeting.width,
+        meeting.columns,
+        meeting.own,
+        meeting.homes,
+        &step,
+    ) {
+        return Ok(step);
+    }
+    Ok(without_keys(alloc, meeting))
+}

@@ -1,0 +1,15 @@
+pub mod After
+pub mod Codecs
+pub mod Examples
+pub mod ExprCodecs
+pub mod FieldCodecs
+pub mod Numbers
+pub mod OpCodecs
+pub mod OpLists
+pub mod PlanCodecs
+pub mod Putting
+pub mod Refs
+pub mod Shapes
+pub mod Turns
+pub mod Utf8
+pub mod Walks

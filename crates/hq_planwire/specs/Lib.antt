@@ -1,0 +1,5 @@
+pub mod Bytes
+pub mod Ranges
+pub mod Reading
+pub mod Rules
+pub mod Wire
