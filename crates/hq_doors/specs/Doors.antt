@@ -24,3 +24,8 @@ HasLabel told label = IfSome told (λ own. own ≡ label)
 abbrev pub Gives : (List ℕ → Option (List ℕ)) → Opening → Option (List ℕ) → Type 0
 Gives file (File name) left = IfSome (file name.now) (λ bytes. left ≡ Some bytes)
 Gives file (Script text) left = IfSome left (λ bytes. bytes ≡ text.now)
+
+-- a script's source tells just the script; of a file nothing is said
+abbrev pub TellsScript : Opening → Option (List ℕ) → Type 0
+TellsScript (File name) left = Unit {0}
+TellsScript (Script text) left = left ≡ Some text.now

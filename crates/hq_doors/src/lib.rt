@@ -13,6 +13,3 @@ pub use memory::MemDoors;
 pub use opening::{Opening, Parts};
 pub use plan::FilePlan;
 pub use words::{Command, FileName, WordFault, read_words};
-
-#[cfg(test)]
-mod tests;

@@ -2,7 +2,7 @@
 ghost use Rattle.std.specs.Prelude.{◌≡◌, ◌≤◌, ◌++◌, ◌∷◌, ◌↔◌, [], ℕ, List, Some, IsTrue, map, is_none, IfOk, IfErr, IfSome, IsSome, OnOk, OnErr, IsErrOf};
 ghost use Rattle.hq_value.specs.Causes.{Rose, raised};
 ghost use Rattle.hq_io.specs.Memory.{fails_next};
-ghost use Rattle.hq_doors.specs.Doors.{label_of, ListsLabel, HasLabel, Gives};
+ghost use Rattle.hq_doors.specs.Doors.{label_of, ListsLabel, HasLabel, Gives, TellsScript};
 ghost use Rattle.hq_doors.specs.Memory.{HaveDistinctNames, TellsEach, planned, plan_for, file_of, fails_to_open, after_call, after_fault, after_opening, IsMade};
 
 use crate::make::{Made, make};
@@ -126,6 +126,7 @@ impl Doors for MemDoors {
         ensures sink_label { IfOk result (λ parts. HasLabel (⟦<MemSink as Sink>⟧.label parts.sink) (label_of session what.entry)) }
         ensures source_told { IsSome (Some self.old.opened) → IfOk result (λ parts. IsSome (⟦<MemSource as Source>⟧.label parts.source)) }
         ensures sink_told { IsSome (Some self.old.opened) → IfOk result (λ parts. IsSome (⟦<MemSink as Sink>⟧.label parts.sink)) }
+        ensures script_told { IsSome (Some self.old.opened) → IfOk result (λ parts. TellsScript what.entry (⟦<MemSource as Source>⟧.left parts.source)) }
         ensures gives { IfOk result (λ parts. Gives (file_of self.old.files) what.entry (⟦<MemSource as Source>⟧.left parts.source)) }
         ensures empty { IfOk result (λ parts. IfSome (⟦<MemSink as Sink>⟧.given parts.sink) (λ bytes. bytes ≡ [])) }
         ensures source_faults { IfOk result (λ parts. ⟦<MemSource as Source>⟧.faults parts.source ≡ 0) }
@@ -135,6 +136,8 @@ impl Doors for MemDoors {
         ensures files { (name : List ℕ) → file_of self.new.files name ≡ file_of self.old.files name }
         ensures later { self.old.faults ≤ self.new.faults }
         ensures failed { IsErrOf result DoorFault.Failed → Rose self.old.faults self.new.faults }
+        ensures steady { OnOk result (self.new.faults ≡ self.old.faults) }
+        ensures kept { IsErrOf result DoorFault.NoMemory → self.new.faults ≡ self.old.faults }
 
         // The source and the sink are those of the plan, and an opening fails exactly where it is planned to or asks
         // for a file that no plan names.

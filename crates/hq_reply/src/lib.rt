@@ -12,6 +12,3 @@ mod write;
 pub use fault::Fault;
 pub use reply::{Reply, Rows};
 pub use write::write_reply;
-
-#[cfg(test)]
-mod tests;

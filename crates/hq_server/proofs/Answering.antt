@@ -1,6 +1,5 @@
 -- Answers to statements, by the place of the table.
 use Rattle.std.proofs.Common.{◌≡◌, ◌≤◌, ◌<◌, ◌+◌, ◌∷◌, ◌++◌, [], ℕ, zero, suc, Bool, true, false, cond, List, Option, Some, None, is_some, length, slice_get, slice_set, nat_le, get_or, refl, ap, sym, subst, ◌∙◌, inl, inr, arith}
-use Rattle.std.specs.List.{list_all}
 use Rattle.std.proofs.lemmas.Option.{slice_get-get_or}
 use Rattle.std.proofs.lemmas.Bool.Decides.{nat_tests}
 use Rattle.hq_value.specs.declared.value.Value.{Value}
@@ -11,8 +10,9 @@ use Rattle.hq_reply.specs.declared.reply.Reply.TheVariants.{Created, Error, Rows
 use Rattle.hq_reply.specs.declared.fault.Fault.TheVariants as fault
 use Rattle.hq_value.specs.Order.{in_row_order, SameBag}
 use Rattle.hq_value.proofs.Order.{SameBag-append}
-use Rattle.hq_table.specs.Kept.{TableState, Buckets, share, rows_of}
-use Rattle.hq_server.specs.Fits.{fits}
+use Rattle.hq_value.specs.Bucket.{Buckets, share, rows_of}
+use Rattle.hq_table.specs.Kept.{TableState}
+use Rattle.hq_value.specs.Kinds.{are_fit, kinds_of}
 use Rattle.hq_server.specs.Tables.{Table, is_named, table_named, with_rows, add_rows, select_reply, IsAnswer, one_more, place_of, names}
 use Rattle.hq_server.specs.Places.{Grows, Inserts, Selects}
 use Rattle.hq_server.specs.Stands.{Holds, Stands, AnswersTo, IsEmpty, kept_names}
@@ -191,7 +191,7 @@ pub insert-kept : (shares : Shares) (kept new : List TableState) (name : List �
 insert-kept shares kept new name rows i reply h (k, at, inl (is, fit, (grown, g, set))) = λ tables stands.
     let found = Stands-get kept tables i k stands at in
     let f = place-found name tables i found.0 (place-kept kept tables name (Some i) stands h) found.1 in
-    let fit' : list_all (fits found.0.columns) rows ≡ true = ap (λ cs. list_all (fits cs) rows) (sym found.2.columns) ∙ fit in (
+    let fit' : are_fit (kinds_of found.0.columns) rows ≡ true = ap (λ cs. are_fit (kinds_of cs) rows) (sym found.2.columns) ∙ fit in (
       slice_set tables i (with_rows rows found.0),
       inl (is ∙ sym (rw (f.0, fit') refl), sym (f.1 rows) ∙ sym (rw (f.0, fit') refl)),
       rw set (Stands-set kept tables i grown (with_rows rows found.0) stands (grown-holds shares rows k grown found.0 found.2 g)),
@@ -199,7 +199,7 @@ insert-kept shares kept new name rows i reply h (k, at, inl (is, fit, (grown, g,
 insert-kept shares kept new name rows i reply h (k, at, inr (inl (is, fit, same))) = λ tables stands.
     let found = Stands-get kept tables i k stands at in
     let f = place-found name tables i found.0 (place-kept kept tables name (Some i) stands h) found.1 in
-    let fit' : list_all (fits found.0.columns) rows ≡ false = ap (λ cs. list_all (fits cs) rows) (sym found.2.columns) ∙ fit in
+    let fit' : are_fit (kinds_of found.0.columns) rows ≡ false = ap (λ cs. are_fit (kinds_of cs) rows) (sym found.2.columns) ∙ fit in
     (tables, inl (is ∙ sym (rw (f.0, fit') refl), sym (rw (f.0, fit') refl)), rw same stands)
 insert-kept shares kept new name rows i reply h (k, at, inr (inr (is, same))) = λ tables stands. (tables, inr (is, refl), rw same stands)
 

@@ -29,14 +29,14 @@ abbrev worked_replies : List ℕ
 worked_replies = codes "CREATE TABLE\nINSERT 3\n1\n2\n2\nSELECT 3\n"
 
 worked_row : Transcript (pieces_of worked) worked_replies
-unfolding is_utf8 chars encode front gap step_at reserved list_from repeat_from value r.expect r.name r.digits r.text e.literal e.negated g.statement_rule g.create g.insert g.select g.transaction g.column g.nullity g.distribution g.insert_columns g.insert_input g.tuple g.names g.head g.distinct g.items g.from g.source g.alias g.more_source g.join g.middle g.filter g.groups g.having g.tail g.keys g.limit digits
+unfolding is_utf8 chars encode front gap step_at reserved list_from repeat_from value r.expect r.name r.digits r.text e.literal e.negated g.statement_rule g.create g.alter g.addition g.new_column g.nullable g.insert g.select g.transaction g.snapshot g.column g.nullity g.distribution g.names g.insert_columns g.insert_input g.tuple g.head g.middle g.tail g.distinct g.items g.item g.alias g.from g.source g.more_source g.join g.filter g.groups g.having g.keys g.key g.order g.direction g.limit digits
 worked_row = (answered (pieces_of worked), refl, refl)
 
 empty_input : Transcript (pieces_of []) []
 empty_input = ([], refl, refl)
 
 refusal : Transcript (pieces_of refused) (codes "ERROR 42P01 no such table\n")
-unfolding is_utf8 chars encode front gap step_at reserved list_from repeat_from value r.expect r.name r.digits r.text e.literal e.negated g.statement_rule g.create g.insert g.select g.transaction g.column g.nullity g.distribution g.insert_columns g.insert_input g.tuple g.names g.head g.distinct g.items g.from g.source g.alias g.more_source g.join g.middle g.filter g.groups g.having g.tail g.keys g.limit
+unfolding is_utf8 chars encode front gap step_at reserved list_from repeat_from value r.expect r.name r.digits r.text e.literal e.negated g.statement_rule g.create g.alter g.addition g.new_column g.nullable g.insert g.select g.transaction g.snapshot g.column g.nullity g.distribution g.names g.insert_columns g.insert_input g.tuple g.head g.middle g.tail g.distinct g.items g.item g.alias g.from g.source g.more_source g.join g.filter g.groups g.having g.keys g.key g.order g.direction g.limit
 refusal = (answered (pieces_of refused), refl, refl)
 
 -- the rows in the order in which they were inserted are no answer

@@ -1,18 +1,21 @@
 -- A session so far, one piece more, and how it ends.
-use Rattle.std.proofs.Common.{◌≡◌, ◌≢◌, ◌+◌, ◌≤◌, ◌^◌, ℕ, Bool, true, false, List, [], ◌∷◌, ◌++◌, length, take, drop, Option, None, Some, Result, Ok, Err, IfSome, refl, ap, sym, subst, inl, inr, ◌∙◌, append_assoc, append-nil, arith, length-append, take-append-drop}
-use Rattle.std.specs.Io.KnownBytes.{append_known, prepend_known}
+use Rattle.std.proofs.Common.{◌≡◌, ◌≢◌, ◌+◌, ◌≤◌, ◌^◌, ℕ, Bool, true, false, List, [], ◌∷◌, ◌++◌, length, take, drop, Option, None, Some, Result, Ok, Err, IfSome, IsSome, ◌⊎◌, ◌<◌, ◌-◌, refl, ap, sym, subst, inl, inr, ◌∙◌, append_assoc, append-nil, arith, length-append, take-append-drop}
+use Rattle.std.specs.Io.KnownBytes.{append_known, prepend_known, IsAtEnd}
 use Rattle.std.proofs.lemmas.List.Sums.{fold-append}
+use Rattle.std.proofs.lemmas.Bool.{cases_lt}
+use Rattle.std.proofs.lemmas.List.{length-take-le}
 use Rattle.std.proofs.lemmas.Grind.{common_steps}
 use Rattle.hq_io.specs.declared.kind.Kind.{Kind}
 use Rattle.hq_io.specs.declared.kind.Kind.TheVariants as kinds
 use Rattle.hq_io.specs.Told.{IfTold, WritesPrefix}
 use Rattle.hq_io.specs.Pieces.{Piece, pieces_of, ended_pieces}
-use Rattle.hq_io.specs.Reading.{Reading, ahead, pieces_given, Ends, EndsNone, Cuts, Breaks, PassesLimit, GivesAll}
+use Rattle.hq_io.specs.Reading.{Reading, ahead, ahead_of, pieces_given, Ends, Cuts, Breaks, PassesLimit}
+use Rattle.hq_io.proofs.Given.{Ends-none, Ends-then, Ends-all}
 use Rattle.hq_reply.specs.declared.reply.Reply.{Reply}
 use Rattle.hq_table.specs.Kept.{TableState}
 use Rattle.hq_server.specs.Stands.{Stands}
 use Rattle.hq_server.specs.Course.{Moment, Course, text_of, reply_at, going_on, course, pieces_in, Transcript, AnswersKept}
-use Rattle.hq_server.specs.Ending.{IsOverLimit, TranscriptGiven, TranscriptWithin, ServesOnto, Ended, Served}
+use Rattle.hq_server.specs.Ending.{IsOverLimit, TranscriptGiven, AreFirst, TranscriptWithin, PassesLimits, ServesOnto, Ended, Served}
 use Rattle.hq_server.specs.declared.why.EndWhy.TheVariants as whys
 
 abbrev Appends : Option (List ℕ) → Option (List ℕ) → List ℕ → Type 0
@@ -39,16 +42,6 @@ pieces_in-push (x ∷ ms) m = ap (λ ps. x.0 ∷ ps) (pieces_in-push ms m)
 length-pieces_in : (ms : List Moment) → length (pieces_in ms) ≡ length ms
 length-pieces_in [] = refl
 length-pieces_in (m ∷ ms) = omega (arith, length-pieces_in ms)
-
-Ends-then : (ps qs : List Piece) (a b c : List ℕ) → Ends ps a b → Ends qs b c → Ends (ps ++ qs) a c
-Ends-then ps qs a b c p q = record {
-  bytes = p.bytes ++ q.bytes;
-  taken = p.taken ∙ ap (λ s. p.bytes ++ s) q.taken ∙ sym (append_assoc p.bytes q.bytes c);
-  ended = λ more. ap ended_pieces (append_assoc p.bytes q.bytes more) ∙ p.ended (q.bytes ++ more) ∙ ap (λ r. ps ++ r) (q.ended more) ∙ sym (append_assoc ps qs (ended_pieces more));
-}
-
-Ends-none : (a : List ℕ) → Ends [] a a
-Ends-none a = record { bytes = []; taken = refl; ended = λ more. refl }
 
 serve-fresh : (left given : Option (List ℕ)) → IfTold left (prepend_known [] left) (Served given given [] (record { held = []; ended = false; text = []; pieces = 0; taken = 0 }))
 serve-fresh None given = tt
@@ -137,31 +130,11 @@ Ended-end whole a left left' first now kept old new over few short s c = record 
     by : (whole a : Option (List ℕ)) → IfTold whole a (Served first now kept old) → IfTold a (Some []) (Cuts kinds.End old new) → IfSome whole (ServesOnto whys.End left first now)
     by None a s c = tt
     by (Some xs) None s c = absurd s
-    by (Some xs) (Some ys) s c = (
-      Written s.moments,
-      s.written,
-      record {
-        end = λ _. end-told first now kept old new xs ys s c;
-        within = λ _. end-within first now kept old new xs ys few short s c;
-        source = λ e. absurd (cc);
-        sink = λ e. absurd (cc);
-        limit = λ e. absurd (cc);
-        limited = λ e. absurd (cc);
-        memory = λ e. absurd (cc);
-      },
-    )
-
--- bytes that end no piece behind those that end some
-given-more : (ps : List Piece) (whole before after : List ℕ) → Ends ps whole before → EndsNone before after → (given : List ℕ) × (whole ≡ given ++ after) × (ended_pieces given ≡ ps)
-given-more ps whole before after p n = (
-  p.bytes ++ n.bytes,
-  p.taken ∙ ap (λ s. p.bytes ++ s) n.taken ∙ sym (append_assoc p.bytes n.bytes after),
-  p.ended n.bytes ∙ ap (λ r. ps ++ r) n.none ∙ append-nil ps,
-)
+    by (Some xs) (Some ys) s c = (Written s.moments, s.written, (end-told first now kept old new xs ys s c, end-within first now kept old new xs ys few short s c))
 
 source-told : (first now : Option (List ℕ)) (kept : List TableState) (old new : Reading) (whole before after : List ℕ) → old.ended ≡ false → (s : Served first now kept old whole before) → Breaks old new before after → TranscriptGiven (Written s.moments) whole after
 source-told first now kept old new whole before after live s b =
-    let g = given-more (pieces_in s.moments) whole before after (s.ends live) b.none in
+    let g = Ends-all (pieces_in s.moments) whole before after (s.ends live) b.none in
     (g.0, g.1, (s.moments, sym g.2, refl))
 
 pub Ended-source : (whole a left first now : Option (List ℕ)) (kept : List TableState) (old new : Reading) → old.ended ≡ false → IfTold whole a (Served first now kept old) → IfTold a left (Breaks old new) → Ended whys.SourceFault whole left first now
@@ -174,52 +147,103 @@ Ended-source whole a left first now kept old new live s b = record {
     by None a left s b = tt
     by (Some xs) None left s b = absurd s
     by (Some xs) (Some ys) None s b = absurd b
-    by (Some xs) (Some ys) (Some zs) s b = (
-      Written s.moments,
-      s.written,
+    by (Some xs) (Some ys) (Some zs) s b = (Written s.moments, s.written, source-told first now kept old new xs ys zs live s b)
+
+-- the first items of a list that goes on behind others
+first-behind : {X : Type 0} (most : ℕ) (front rest : List X) → length front ≤ most → (back : List X) × AreFirst most (front ++ rest) (front ++ back)
+first-behind {X} most front rest short = by (most - length front) (omega (arith, short)) (cases_lt (length rest) (most - length front))
+  where
+    by : (n : ℕ) → length front + n ≡ most → (length rest < n) ⊎ (n ≤ length rest) → (back : List X) × AreFirst most (front ++ rest) (front ++ back)
+    by n is (inl less) = (rest, record { more = []; parts = sym (append-nil (front ++ rest)); most_or_all = inr (refl, omega (arith, is, less, length-append front rest)) })
+    by n is (inr enough) = (
+      take n rest,
       record {
-        end = λ e. absurd (cc);
-        within = λ e. absurd (cc);
-        source = λ _. source-told first now kept old new xs ys zs live s b;
-        sink = λ e. absurd (cc);
-        limit = λ e. absurd (cc);
-        limited = λ e. absurd (cc);
-        memory = λ e. absurd (cc);
+        more = drop n rest;
+        parts = ap (λ r. front ++ r) (sym (take-append-drop n rest)) ∙ sym (append_assoc front (take n rest) (drop n rest));
+        most_or_all = inl (omega (arith, is, length-append front (take n rest), length-take-le n rest enough));
       },
     )
 
-limit-over : (first now : Option (List ℕ)) (kept : List TableState) (old : Reading) (whole before : List ℕ) → Served first now kept old whole before → PassesLimit old before → IsOverLimit whole
-limit-over first now kept old whole before s (inl l) = inl (omega (arith, s.count, length-pieces_in s.moments, ap length s.pieces, length-append (pieces_in s.moments) (pieces_of before), l.0, l.1))
-limit-over first now kept old whole before s (inr l) = inr (omega (arith, s.bytes, l))
+-- the pieces so far are those that ended within both limits
+limit-within : (first now : Option (List ℕ)) (kept : List TableState) (old new : Reading) (whole before after : List ℕ) → old.ended ≡ false → old.pieces ≤ 100000 → old.taken ≤ 2 ^ 32 → (s : Served first now kept old whole before) → PassesLimit old new before after → TranscriptWithin whole (Written s.moments)
+limit-within first now kept old new whole before after live few short s (inl p) =
+    let e = s.ends live in
+    let f = first-behind (2 ^ 32) e.bytes before (omega (arith, s.bytes, short, ap length e.taken, length-append e.bytes before)) in
+    record {
+      within = e.bytes ++ f.0;
+      first_bytes = subst (λ w. AreFirst (2 ^ 32) w (e.bytes ++ f.0)) (sym e.taken) f.1;
+      pieces = pieces_in s.moments;
+      first_pieces = record { more = ended_pieces f.0; parts = e.ended f.0; most_or_all = inl (length-pieces_in s.moments ∙ s.count ∙ p.0) };
+      transcript = (s.moments, refl, refl);
+    }
+limit-within first now kept old new whole before after live few short s (inr t) =
+    let g = Ends-all (pieces_in s.moments) whole before after (s.ends live) t.none in
+    record {
+      within = g.0;
+      first_bytes = record { more = after; parts = g.1; most_or_all = inl (omega (arith, s.bytes, t.taken, t.most, ap length g.1, length-append g.0 after)) };
+      pieces = pieces_in s.moments;
+      first_pieces = record { more = []; parts = g.2 ∙ sym (append-nil (pieces_in s.moments)); most_or_all = inr (refl, omega (arith, length-pieces_in s.moments, s.count, few)) };
+      transcript = (s.moments, refl, refl);
+    }
 
-limit-told : (first now : Option (List ℕ)) (kept : List TableState) (old : Reading) (whole before : List ℕ) → old.ended ≡ false → (s : Served first now kept old whole before) → GivesAll old before → TranscriptWithin whole (Written s.moments)
-limit-told first now kept old whole before live s (inl g) = inl (pieces_in s.moments, pieces_of before, s.pieces, length-pieces_in s.moments ∙ s.count ∙ g, (s.moments, refl, refl))
-limit-told first now kept old whole before live s (inr (after, n, long)) =
-    let g = given-more (pieces_in s.moments) whole before after (s.ends live) n in
-    inr (g.0, after, g.1, omega (arith, s.bytes, long, ap length g.1, length-append g.0 after), (s.moments, sym g.2, refl))
+-- a piece past the last one ended in what the source gave
+gave-ended : (pieces : List Piece) (piece : Piece) (whole before held left : List ℕ) → length pieces ≡ 100000 → Ends pieces whole before → Ends (piece ∷ []) before (held ++ left) → PassesLimits whole left
+gave-ended pieces piece whole before held left many p q =
+    let e = Ends-then pieces (piece ∷ []) whole before (held ++ left) p q in (
+      e.bytes ++ held,
+      e.taken ∙ sym (append_assoc e.bytes held left),
+      inl (omega (arith, many, ap length (e.ended held), length-append (pieces ++ piece ∷ []) (ended_pieces held), length-append pieces (piece ∷ []))),
+    )
 
-pub Ended-limit : (whole a left first now : Option (List ℕ)) (kept : List TableState) (old : Reading) → old.ended ≡ false → IfTold whole a (Served first now kept old) → IfSome a (PassesLimit old) → IfSome a (GivesAll old) → Ended whys.InputLimit whole left first now
-Ended-limit whole a left first now kept old live s l g = record {
-  served = by whole a s l g;
+-- it is the rest of all that the source had
+gave-rest : (pieces : List Piece) (piece : Piece) (whole before after left : List ℕ) → length pieces ≡ 100000 → pieces_of whole ≡ pieces ++ pieces_of before → pieces_of before ≡ piece ∷ pieces_of after → left ≡ [] → PassesLimits whole left
+gave-rest pieces piece whole before after left many all more none = (
+  whole,
+  sym (ap (λ l. whole ++ l) none ∙ append-nil whole),
+  inr (inl (none, omega (arith, many, ap length all, length-append pieces (pieces_of before), ap length more))),
+)
+
+-- a byte more was read
+gave-byte : (given whole held left : List ℕ) → whole ≡ given ++ (held ++ left) → length given ≡ 2 ^ 32 → 0 < length held → PassesLimits whole left
+gave-byte given whole held left is most more = (given ++ held, is ∙ sym (append_assoc given held left), inr (inr (omega (arith, most, more, length-append given held))))
+
+-- what the source gave passes a limit, by whether the reader came to the end
+limit-gave : (first now : Option (List ℕ)) (kept : List TableState) (old new : Reading) (whole before left : List ℕ) → old.ended ≡ false → (new.ended ≡ true → left ≡ []) → (s : Served first now kept old whole before) → IfTold (Some before) (ahead new (Some left)) (PassesLimit old new) → PassesLimits whole left
+limit-gave first now kept old new whole before left live over s l = by new.ended refl l
+  where
+    many : old.pieces ≡ 100000 → length (pieces_in s.moments) ≡ 100000
+    many e = length-pieces_in s.moments ∙ s.count ∙ e
+
+    by : (b : Bool) → new.ended ≡ b → IfTold (Some before) (ahead_of b new.held (Some left)) (PassesLimit old new) → PassesLimits whole left
+    by true e (inl p) = gave-rest (pieces_in s.moments) p.1.0 whole before [] left (many p.0) s.pieces p.1.1 (over e)
+    by true e (inr t) = absurd (let no : true ≡ false = sym e ∙ t.going in cc)
+    by false e (inl p) = gave-ended (pieces_in s.moments) p.1.0 whole before new.held left (many p.0) (s.ends live) (p.1.2 e)
+    by false e (inr t) =
+        let g = Ends-all (pieces_in s.moments) whole before (new.held ++ left) (s.ends live) t.none in
+        gave-byte g.0 whole new.held left g.1 (omega (arith, s.bytes, t.taken, t.most, ap length g.1, length-append g.0 (new.held ++ left))) t.more
+
+-- what is behind a reader is told where the source's bytes are
+after-told : (new : Reading) (before left : List ℕ) (P : List ℕ → List ℕ → Type 0) → IfTold (Some before) (ahead new (Some left)) P → (after : List ℕ) × P before after
+after-told new before left P l = by new.ended l
+  where
+    by : (b : Bool) → IfTold (Some before) (ahead_of b new.held (Some left)) P → (after : List ℕ) × P before after
+    by true p = ([], p)
+    by false p = (new.held ++ left, p)
+
+pub Ended-limit : (whole left left' first now : Option (List ℕ)) (kept : List TableState) (old new : Reading) → old.ended ≡ false → old.pieces ≤ 100000 → old.taken ≤ 2 ^ 32 → (IsSome left → IsSome left') → (new.ended ≡ true → IsAtEnd left')
+    → IfTold whole (ahead old left) (Served first now kept old) → IfTold (ahead old left) (ahead new left') (PassesLimit old new) → Ended whys.InputLimit whole left' first now
+Ended-limit whole left left' first now kept old new live few short told over s l = record {
+  served = by whole left left' told over (subst (λ b. IfTold whole (ahead_of b old.held left) (Served first now kept old)) live s) (subst (λ b. IfTold (ahead_of b old.held left) (ahead new left') (PassesLimit old new)) live l);
   memory = λ e. absurd (cc);
 }
   where
-    by : (whole a : Option (List ℕ)) → IfTold whole a (Served first now kept old) → IfSome a (PassesLimit old) → IfSome a (GivesAll old) → IfSome whole (ServesOnto whys.InputLimit left first now)
-    by None a s l g = tt
-    by (Some xs) None s l g = absurd s
-    by (Some xs) (Some ys) s l g = (
-      Written s.moments,
-      s.written,
-      record {
-        end = λ e. absurd (cc);
-        within = λ e. absurd (cc);
-        source = λ e. absurd (cc);
-        sink = λ e. absurd (cc);
-        limit = λ _. limit-over first now kept old xs ys s l;
-        limited = λ _. limit-told first now kept old xs ys live s g;
-        memory = λ e. absurd (cc);
-      },
-    )
+    by : (whole left left' : Option (List ℕ)) → (IsSome left → IsSome left') → (new.ended ≡ true → IsAtEnd left') → IfTold whole (prepend_known old.held left) (Served first now kept old) → IfTold (prepend_known old.held left) (ahead new left') (PassesLimit old new) → IfSome whole (ServesOnto whys.InputLimit left' first now)
+    by None left left' told over s l = tt
+    by (Some xs) None left' told over s l = absurd s
+    by (Some xs) (Some ys) None told over s l = absurd (let no = told refl in cc)
+    by (Some xs) (Some ys) (Some zs) told over s l =
+        let p = after-told new (old.held ++ ys) zs (PassesLimit old new) l in
+        (Written s.moments, s.written, (limit-within first now kept old new xs (old.held ++ ys) p.0 live few short s p.1, limit-gave first now kept old new xs (old.held ++ ys) zs live over s l))
 
 -- a reply of which a prefix was written
 part-told : {E : Type 0} (left first now next : Option (List ℕ)) (kept kept' : List TableState) (kind : Kind) (old new : Reading) (whole before after : List ℕ) (piece : Piece) (reply : Option Reply) (result : Result Unit E)
@@ -231,22 +255,14 @@ part-told left first now next kept kept' kind old new whole before after piece r
       Written s.moments ++ part,
       Appends-then first now next (Written s.moments) part s.written w.appended,
       record {
-        end = λ e. absurd (cc);
-        within = λ e. absurd (cc);
-        source = λ e. absurd (cc);
-        sink = λ _. record {
-          before = s.moments;
-          last = (piece, b.0);
-          later = pieces_of after;
-          pieces_are = s.pieces ∙ ap (λ r. pieces_in s.moments ++ r) (c.pieces ∙ ap (λ g. g ++ pieces_of after) one);
-          prefix = part;
-          rest = drop w.count (text_of reply);
-          reply = ap text_of (sym b.1) ∙ sym (take-append-drop w.count (text_of reply));
-          written = refl;
-        };
-        limit = λ e. absurd (cc);
-        limited = λ e. absurd (cc);
-        memory = λ e. absurd (cc);
+        before = s.moments;
+        last = (piece, b.0);
+        later = pieces_of after;
+        pieces_are = s.pieces ∙ ap (λ r. pieces_in s.moments ++ r) (c.pieces ∙ ap (λ g. g ++ pieces_of after) one);
+        prefix = part;
+        rest = drop w.count (text_of reply);
+        reply = ap text_of (sym b.1) ∙ sym (take-append-drop w.count (text_of reply));
+        written = refl;
       },
     )
 
@@ -274,19 +290,7 @@ Ended-memory whole first = record {
   where
     by : (whole : Option (List ℕ)) → IfSome whole (ServesOnto whys.NoMemory whole first first)
     by None = tt
-    by (Some xs) = (
-      [],
-      Appends-none first,
-      record {
-        end = λ e. absurd (cc);
-        within = λ e. absurd (cc);
-        source = λ e. absurd (cc);
-        sink = λ e. absurd (cc);
-        limit = λ e. absurd (cc);
-        limited = λ e. absurd (cc);
-        memory = λ _. (refl, refl);
-      },
-    )
+    by (Some xs) = ([], Appends-none first, (refl, refl))
 
 -- a reader that gave another answer than the end has not ended
 pub live-by : {E : Type 0} (ended : Bool) (result : Result Kind E) → (ended ≡ true → result ≡ Ok kinds.End) → result ≢ Ok kinds.End → ended ≡ false

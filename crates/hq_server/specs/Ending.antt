@@ -15,6 +15,14 @@ use Rattle.hq_server.specs.declared.why.EndWhy.TheVariants.{End, SourceFault, Si
 abbrev pub IsOverLimit : List ℕ → Type 0
 IsOverLimit input = (100000 < length (pieces_of input)) ⊎ (2 ^ 32 < length input)
 
+-- a source that gave this and has left the rest gave a piece more than an input may have, ended or at the end, or a byte more
+abbrev pub GaveTooMuch : List ℕ → List ℕ → Type 0
+GaveTooMuch given left = (100000 < length (ended_pieces given)) ⊎ (((left ≡ []) × (100000 < length (pieces_of given))) ⊎ (2 ^ 32 < length given))
+
+-- what the source gave passes a limit
+abbrev pub PassesLimits : List ℕ → List ℕ → Type 0
+PassesLimits input left = (given : List ℕ) × (input ≡ given ++ left) × GaveTooMuch given left
+
 -- the bytes are the replies to the pieces whose `;` the source gave
 abbrev pub TranscriptGiven : List ℕ → List ℕ → List ℕ → Type 0
 TranscriptGiven bytes input left = (given : List ℕ) × (input ≡ given ++ left) × Transcript (ended_pieces given) bytes
@@ -30,26 +38,33 @@ pub record TranscriptPart (pieces : List Piece) (bytes : List ℕ) : Type 0 wher
   pub reply : text_of (reply_at (course before) last) ≡ prefix ++ rest
   pub written : bytes ≡ (course before).written ++ prefix
 
--- the bytes are the replies to the pieces that ended within both limits: to 100,000 pieces, or to those whose `;` is among
--- the first 4,294,967,296 bytes
-abbrev pub TranscriptWithin : List ℕ → List ℕ → Type 0
-TranscriptWithin input bytes =
-    ((pieces later : List Piece) × (pieces_of input ≡ pieces ++ later) × (length pieces ≡ 100000) × Transcript pieces bytes)
-    ⊎ ((given more : List ℕ) × (input ≡ given ++ more) × (length given ≡ 2 ^ 32) × Transcript (ended_pieces given) bytes)
+-- the first items of a list, so many, or all where there are no more
+pub record AreFirst {X : Type 0} (most : ℕ) (whole first : List X) : Type 0 where
+  pub more : List X
+  pub parts : whole ≡ first ++ more
+  pub most_or_all : (length first ≡ most) ⊎ ((more ≡ []) × (length first ≤ most))
+
+-- the bytes are the replies to the pieces that ended within both limits: the first 100,000 pieces that end in the first
+-- 4,294,967,296 bytes
+pub record TranscriptWithin (input bytes : List ℕ) : Type 0 where
+  pub within : List ℕ
+  pub first_bytes : AreFirst (2 ^ 32) input within
+  pub pieces : List Piece
+  pub first_pieces : AreFirst 100000 (ended_pieces within) pieces
+  pub transcript : Transcript pieces bytes
 
 -- What a session wrote for its input, by why it ended, over a source that then has these bytes left.
-pub record Serves (why : EndWhy) (input bytes : List ℕ) (left : Option (List ℕ)) : Type 0 where
-  -- at the end of the input just the replies to its pieces
-  pub end : why ≡ End → Transcript (pieces_of input) bytes
-  pub within : why ≡ End → IsOverLimit input → ⊥
-  -- where the source failed, those to the pieces whose `;` it gave
-  pub source : why ≡ SourceFault → IfTold (Some input) left (TranscriptGiven bytes)
-  -- where the sink failed, those before that to some piece, and a prefix of its own
-  pub sink : why ≡ SinkFault → TranscriptPart (pieces_of input) bytes
-  pub limit : why ≡ InputLimit → IsOverLimit input
-  pub limited : why ≡ InputLimit → TranscriptWithin input bytes
-  -- without memory nothing, before the first piece was read
-  pub memory : why ≡ NoMemory → (bytes ≡ []) × (left ≡ Some input)
+abbrev pub Serves : EndWhy → List ℕ → List ℕ → Option (List ℕ) → Type 0
+-- at the end of the input just the replies to its pieces, which are within the limits
+Serves End input bytes left = Transcript (pieces_of input) bytes × (IsOverLimit input → ⊥)
+-- where the source failed, those to the pieces whose `;` it gave
+Serves SourceFault input bytes left = IfTold (Some input) left (TranscriptGiven bytes)
+-- where the sink failed, those before that to some piece, and a prefix of its own
+Serves SinkFault input bytes left = TranscriptPart (pieces_of input) bytes
+-- at a limit, those to the pieces that ended within both, and what the source gave passes one
+Serves InputLimit input bytes left = TranscriptWithin input bytes × IfTold (Some input) left PassesLimits
+-- without memory nothing, before the first piece was read
+Serves NoMemory input bytes left = (bytes ≡ []) × (left ≡ Some input)
 
 -- what a session wrote for its input stands behind what its sink was given before
 abbrev pub ServesOnto : EndWhy → Option (List ℕ) → Option (List ℕ) → Option (List ℕ) → List ℕ → Type 0

@@ -1,6 +1,5 @@
 pub mod Course
 pub mod Ending
-pub mod Fits
 pub mod Places
 pub mod Run
 pub mod Stands

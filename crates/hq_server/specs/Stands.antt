@@ -6,7 +6,8 @@ use Rattle.hq_value.specs.declared.table.Column.{Column}
 use Rattle.hq_value.specs.Order.{SameBag}
 use Rattle.hq_forms.specs.declared.form.Form.{Form}
 use Rattle.hq_reply.specs.declared.reply.Reply.{Reply}
-use Rattle.hq_table.specs.Kept.{TableState, Buckets, Keeps, rows_of}
+use Rattle.hq_value.specs.Bucket.{Buckets, rows_of}
+use Rattle.hq_table.specs.Kept.{TableState, Keeps}
 use Rattle.hq_server.specs.Tables.{Table, IsAnswer}
 
 pub record Holds (kept : TableState) (table : Table) : Type 0 where

@@ -3,7 +3,6 @@
 --     after tables s          the tables that it leaves
 --     IsAnswer ..             a reply is that, or there was no memory and nothing changed
 use Rattle.std.specs.Prelude.{◌≡◌, ◌⊎◌, ◌+◌, ℕ, Bool, List, [], ◌∷◌, ◌++◌, length, map, nat_le, is_some, Option, Some, None, if◌then◌else◌}
-use Rattle.std.specs.List.{list_all}
 use Rattle.std.specs.Str.{bytes_eq}
 use Rattle.hq_value.specs.declared.value.Value.{Value}
 use Rattle.hq_value.specs.declared.table.Column.{Column}
@@ -13,7 +12,7 @@ use Rattle.hq_forms.specs.declared.form.Form.TheVariants as form
 use Rattle.hq_reply.specs.declared.reply.Reply.{Reply}
 use Rattle.hq_reply.specs.declared.reply.Reply.TheVariants.{Rows, Inserted, Created, Error}
 use Rattle.hq_reply.specs.declared.fault.Fault.TheVariants as fault
-use Rattle.hq_server.specs.Fits.{fits}
+use Rattle.hq_value.specs.Kinds.{are_fit, kinds_of}
 
 -- a table: its name, its columns, the places of its keys, and its rows in the order in which they were inserted
 pub record Table : Type 0 where
@@ -39,7 +38,7 @@ add_rows name rows (table ∷ tables) = if is_named name table then with_rows ro
 -- the reply to an INSERT into the table that was found
 abbrev pub insert_reply : List (List Value) → Option Table → Reply
 insert_reply rows None = Error fault.UndefinedTable
-insert_reply rows (Some table) = if list_all (fits table.columns) rows then Inserted (length rows) else Error fault.TypeMismatch
+insert_reply rows (Some table) = if are_fit (kinds_of table.columns) rows then Inserted (length rows) else Error fault.TypeMismatch
 
 abbrev pub select_reply : Option Table → Reply
 select_reply None = Error fault.UndefinedTable
@@ -48,7 +47,7 @@ select_reply (Some table) = Rows (in_row_order table.rows)
 -- the tables after an INSERT into the table that was found
 abbrev pub inserted : List ℕ → List (List Value) → List Table → Option Table → List Table
 inserted name rows tables None = tables
-inserted name rows tables (Some table) = if list_all (fits table.columns) rows then add_rows name rows tables else tables
+inserted name rows tables (Some table) = if are_fit (kinds_of table.columns) rows then add_rows name rows tables else tables
 
 abbrev pub reply_of : List Table → Option Form → Reply
 reply_of tables None = Error fault.Syntax

@@ -1,8 +1,9 @@
 //! Tables in memory and the answers to statements over them.
 ghost use Rattle.std.specs.Prelude.{◌≡◌, ◌<◌, ◌++◌, ◌∷◌, [], length, Some, IfSome, IfOk, OnOk, OnErr};
 ghost use Rattle.hq_value.specs.Order.{in_row_order};
-ghost use Rattle.hq_forms.specs.Forms.{HasColumns};
-ghost use Rattle.hq_table.specs.Kept.{TableState, Buckets, Keeps, rows_of};
+ghost use Rattle.hq_value.specs.Tables.{IsDefinition};
+ghost use Rattle.hq_value.specs.Bucket.{Buckets, rows_of};
+ghost use Rattle.hq_table.specs.Kept.{TableState, Keeps};
 ghost use Rattle.hq_table.specs.Home.{IsQuiet};
 ghost use Rattle.hq_server.specs.Tables.{place_of};
 ghost use Rattle.hq_server.specs.Places.{Inserts, Selects};
@@ -11,9 +12,9 @@ ghost use Rattle.hq_server.specs.Stands.{IsEmpty, kept_names};
 use hq_forms::{Form, ParseFault, read_form};
 use hq_reply::{Fault, Reply};
 use hq_store::MemStore;
-use hq_table::{Table, shares_are_the_rows};
+use hq_table::Table;
 use hq_value::{
-    Columns, Keys, Name, NoMemory, Row, Sequence, TableDef, sort_in_row_order,
+    Columns, Keys, Name, NoMemory, Row, Sequence, TableDef, shares_are_the_rows, sort_in_row_order,
     sorting_forgets_the_order,
 };
 use std::alloc::Global;
@@ -43,7 +44,7 @@ impl Model for Database {
 
 impl Database {
     ghost use Rattle.hq_server.specs.Stands.{AnswersTo};
-    ghost use Rattle.hq_forms.specs.Forms.{form_in, HasColumns};
+    ghost use Rattle.hq_forms.specs.Forms.{form_in};
 
     /// No tables.
     pub fn new(alloc: Global) -> Database
@@ -75,7 +76,7 @@ impl Database {
     }
 
     fn create(&mut self, alloc: Global, name: Name, columns: Columns, keys: Keys) -> Reply
-        requires { HasColumns columns keys }
+        requires { IsDefinition (record { name = name; columns = columns; keys = keys }) }
         ensures { AnswersTo (Some (Form.Create name columns keys)) self.old result self.new }
     {
         if place_of(&self.tables, &name).is_some() {
@@ -144,16 +145,12 @@ fn add_table(
     columns: Columns,
     keys: Keys,
 ) -> Result<(), NoMemory>
-    requires columns { HasColumns columns keys }
+    requires columns { IsDefinition (record { name = name; columns = columns; keys = keys }) }
     requires tables { length tables.old.items < 64 }
     ensures ok { OnOk result ((kept : TableState) × IsEmpty name columns keys kept × (tables.new.items ≡ tables.old.items ++ kept ∷ [])) }
     ensures err { OnErr result (tables.new.items ≡ tables.old.items) }
 {
-    let def = TableDef {
-        name,
-        columns,
-        keys,
-    };
+    let def = TableDef::new(alloc, name, columns, keys)?;
     let table = Table::new(alloc, tables.len() as u32, def)?;
     match tables.push(table) {
         Ok(()) => Ok(()),
@@ -204,6 +201,6 @@ fn sorted(alloc: Global, store: &mut MemStore, table: &Table) -> Result<Sequence
     ensures quiet { IsQuiet store.new }
 {
     let mut rows = table.scan(alloc, store)?;
-    sort_in_row_order(&mut rows)?;
+    sort_in_row_order(&mut rows);
     Ok(Sequence::from_vec(rows))
 }

@@ -12,6 +12,3 @@ pub use hq_doors::{
 pub use run::{RunEnd, SessionEnd, run_alone};
 pub use session::serve_alone;
 pub use why::EndWhy;
-
-#[cfg(test)]
-mod tests;

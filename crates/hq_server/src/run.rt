@@ -1,5 +1,6 @@
 //! The program's call: from the words and the doors to the sessions' ends.
-ghost use Rattle.std.specs.Prelude.{◌≡◌, ◌≤◌, ℕ, List, map, string_bytes};
+ghost use Rattle.std.specs.Prelude.{◌≡◌, ◌≤◌, ◌⊎◌, [], ℕ, List, IsSome, map, string_bytes};
+ghost use Rattle.std.specs.Io.KnownBytes.{IsAtEnd};
 ghost use Rattle.std.specs.List.{AllByRecursion};
 ghost use Rattle.hq_value.specs.Causes.{Rose};
 ghost use Rattle.hq_doors.specs.Doors.{HasLabel, ListsLabel};
@@ -73,6 +74,11 @@ fn run_file<D: Doors>(alloc: Global, name: &str, doors: &mut D) -> RunEnd<D>
     ensures formed { result.status ≡ 2 → ⊥ }
     ensures doors { result.status ≡ 3 → Rose (D.faults doors.old) (D.faults doors.new) }
     ensures later { D.faults doors.old ≤ D.faults doors.new }
+    ensures files { (name : List ℕ) → D.file doors.new name ≡ D.file doors.old name }
+    ensures unopened { result.ends.items ≡ [] → D.opened doors.new ≡ D.opened doors.old }
+    ensures honest { result.ends.items ≡ [] → (D.faults doors.new ≡ D.faults doors.old) ⊎ (result.status ≡ 3) }
+    ensures read { AllByRecursion (λ end. end.why ≡ EndWhy.End → IsAtEnd (D.Source.left end.parts.source)) result.ends.items }
+    ensures told { IsSome (D.opened doors.old) → AllByRecursion (λ end. IsSome (D.Source.label end.parts.source) × IsSome (D.Sink.label end.parts.sink)) result.ends.items }
     ensures sessions { AllByRecursion (λ end. end.session ≡ 1) result.ends.items }
     ensures served { AllByRecursion (λ end. ServesFile end.why (D.file doors.old name.now) (D.Source.left end.parts.source) (D.Sink.given end.parts.sink)) result.ends.items }
     ensures faults { AllByRecursion (λ end. HasFaults end.why (D.Source.faults end.parts.source) (D.Sink.faults end.parts.sink)) result.ends.items }
@@ -141,6 +147,11 @@ fn run_only<D: Doors>(
     ensures formed { result.status ≡ 2 → ⊥ }
     ensures doors { result.status ≡ 3 → Rose (D.faults doors.old) (D.faults doors.new) }
     ensures later { D.faults doors.old ≤ D.faults doors.new }
+    ensures files { (name : List ℕ) → D.file doors.new name ≡ D.file doors.old name }
+    ensures unopened { result.ends.items ≡ [] → D.opened doors.new ≡ D.opened doors.old }
+    ensures honest { result.ends.items ≡ [] → (D.faults doors.new ≡ D.faults doors.old) ⊎ (result.status ≡ 3) }
+    ensures read { AllByRecursion (λ end. end.why ≡ EndWhy.End → IsAtEnd (D.Source.left end.parts.source)) result.ends.items }
+    ensures told { IsSome (D.opened doors.old) → AllByRecursion (λ end. IsSome (D.Source.label end.parts.source) × IsSome (D.Sink.label end.parts.sink)) result.ends.items }
     ensures sessions { AllByRecursion (λ end. end.session ≡ 1) result.ends.items }
     ensures served { (name : List ℕ) → RunsFile (map string_bytes words.now) name → AllByRecursion (λ end. ServesFile end.why (D.file doors.old name) (D.Source.left end.parts.source) (D.Sink.given end.parts.sink)) result.ends.items }
     ensures faults { AllByRecursion (λ end. HasFaults end.why (D.Source.faults end.parts.source) (D.Sink.faults end.parts.sink)) result.ends.items }
@@ -160,6 +171,11 @@ fn run_words<D: Doors>(alloc: Global, words: &[String], doors: &mut D) -> RunEnd
     ensures no_form { ((name : List ℕ) → RunsFile (map string_bytes words.now) name → ⊥) → result.status ≡ 2 }
     ensures doors { result.status ≡ 3 → Rose (D.faults doors.old) (D.faults doors.new) }
     ensures later { D.faults doors.old ≤ D.faults doors.new }
+    ensures files { (name : List ℕ) → D.file doors.new name ≡ D.file doors.old name }
+    ensures unopened { result.ends.items ≡ [] → D.opened doors.new ≡ D.opened doors.old }
+    ensures honest { result.ends.items ≡ [] → (D.faults doors.new ≡ D.faults doors.old) ⊎ (result.status ≡ 3) }
+    ensures read { AllByRecursion (λ end. end.why ≡ EndWhy.End → IsAtEnd (D.Source.left end.parts.source)) result.ends.items }
+    ensures told { IsSome (D.opened doors.old) → AllByRecursion (λ end. IsSome (D.Source.label end.parts.source) × IsSome (D.Sink.label end.parts.sink)) result.ends.items }
     ensures sessions { AllByRecursion (λ end. end.session ≡ 1) result.ends.items }
     ensures served { (name : List ℕ) → RunsFile (map string_bytes words.now) name → AllByRecursion (λ end. ServesFile end.why (D.file doors.old name) (D.Source.left end.parts.source) (D.Sink.given end.parts.sink)) result.ends.items }
     ensures faults { AllByRecursion (λ end. HasFaults end.why (D.Source.faults end.parts.source) (D.Sink.faults end.parts.sink)) result.ends.items }
@@ -196,6 +212,15 @@ pub fn run_alone<D: Doors>(
     ensures no_form { ((name : List ℕ) → RunsFile (map string_bytes words.now) name → ⊥) → result.status ≡ 2 }
     // 3 comes only where the doors have failed.
     ensures doors { result.status ≡ 3 → Rose (D.faults doors.old) (D.faults doors.new) }
+    ensures later { D.faults doors.old ≤ D.faults doors.new }
+    // The doors tell the same files after, and where no session has run, they opened nothing and failed only with status 3.
+    ensures files { (name : List ℕ) → D.file doors.new name ≡ D.file doors.old name }
+    ensures unopened { result.ends.items ≡ [] → D.opened doors.new ≡ D.opened doors.old }
+    ensures honest { result.ends.items ≡ [] → (D.faults doors.new ≡ D.faults doors.old) ⊎ (result.status ≡ 3) }
+    // At the end of the input the source has nothing left.
+    ensures read { AllByRecursion (λ end. end.why ≡ EndWhy.End → IsAtEnd (D.Source.left end.parts.source)) result.ends.items }
+    // Doors that tell what they opened hand out what tells its label.
+    ensures told { IsSome (D.opened doors.old) → AllByRecursion (λ end. IsSome (D.Source.label end.parts.source) × IsSome (D.Sink.label end.parts.sink)) result.ends.items }
     ensures sessions { AllByRecursion (λ end. end.session ≡ 1) result.ends.items }
     // What a session wrote is the replies to the pieces of its file, in order.
     ensures served { (name : List ℕ) → RunsFile (map string_bytes words.now) name → AllByRecursion (λ end. ServesFile end.why (D.file doors.old name) (D.Source.left end.parts.source) (D.Sink.given end.parts.sink)) result.ends.items }

@@ -1,5 +1,6 @@
 //! One session: its pieces are answered one after another.
-ghost use Rattle.std.specs.Prelude.{◌≡◌, ◌≤◌, ◌+◌, ℕ, List, None, MatchResult, OnOk};
+ghost use Rattle.std.specs.Prelude.{◌≡◌, ◌≤◌, ◌+◌, ℕ, List, None, true, MatchResult, OnOk};
+ghost use Rattle.std.specs.Io.KnownBytes.{IsAtEnd};
 ghost use Rattle.std.specs.declared.option.Option.{Option};
 ghost use Rattle.hq_value.specs.Causes.{HasCause};
 ghost use Rattle.hq_io.specs.Told.{IfTold, WritesPrefix};
@@ -75,6 +76,10 @@ fn turn<A: Source, B: Sink>(
         → MatchResult result
         (λ _. IfTold whole (ahead reader.new (A.left source.new)) (Served first (B.given sink.new) database.new reader.new))
         (λ why. Ended why whole (A.left source.new) first (B.given sink.new)) }
+    ensures read { (reader.old.ended ≡ true → IsAtEnd (A.left source.old))
+        → MatchResult result
+        (λ _. reader.new.ended ≡ true → IsAtEnd (A.left source.new))
+        (λ why. why ≡ EndWhy.End → IsAtEnd (A.left source.new)) }
     ensures pieces { OnOk result ((reader.new.pieces ≡ reader.old.pieces + 1) × (reader.new.pieces ≤ 100000)) }
     ensures cause { MayEnd result (A.faults source.old) (A.faults source.new) (B.faults sink.old) (B.faults sink.new) }
     ensures source_label { A.label source.new ≡ A.label source.old }
@@ -103,6 +108,7 @@ fn serve_all<A: Source, B: Sink>(
 ) -> EndWhy
     ensures served { (whole first : Option (List ℕ)) → IfTold whole (ahead reader.old (A.left source.old)) (Served first (B.given sink.old) database.old reader.old)
         → Ended result whole (A.left source.new) first (B.given sink.new) }
+    ensures read { (reader.old.ended ≡ true → IsAtEnd (A.left source.old)) → result ≡ EndWhy.End → IsAtEnd (A.left source.new) }
     ensures cause { Causes result (A.faults source.old) (A.faults source.new) (B.faults sink.old) (B.faults sink.new) }
     ensures source_label { A.label source.new ≡ A.label source.old }
     ensures sink_label { B.label sink.new ≡ B.label sink.old }
@@ -119,6 +125,8 @@ fn serve_all<A: Source, B: Sink>(
 /// piece is read.
 pub fn serve_alone<A: Source, B: Sink>(alloc: Global, source: &mut A, sink: &mut B) -> EndWhy
     ensures served { Ended result (A.left source.old) (A.left source.new) (B.given sink.old) (B.given sink.new) }
+    // At the end of the input the source has nothing left.
+    ensures read { result ≡ EndWhy.End → IsAtEnd (A.left source.new) }
     ensures cause { Causes result (A.faults source.old) (A.faults source.new) (B.faults sink.old) (B.faults sink.new) }
     ensures source_label { A.label source.new ≡ A.label source.old }
     ensures sink_label { B.label sink.new ≡ B.label sink.old }

@@ -1,26 +1,23 @@
-use Rattle.std.proofs.Common.{◌≡◌, ◌∙◌, true, All, IsTrue, length, ap, sym, subst, refl, inl, inr, slice_set}
-use Rattle.std.specs.List.{list_all}
-use Rattle.hq_block.specs.Row.{Fits}
+use Rattle.std.proofs.Common.{◌≡◌, ◌∙◌, true, false, length, ap, sym, subst, refl, inl, inr, slice_set}
 use Rattle.hq_reply.specs.declared.reply.Reply.TheVariants.{Inserted}
-use Rattle.hq_table.specs.Kept.{TableState, kinds_of}
-use Rattle.hq_server.specs.Fits.{fits}
+use Rattle.hq_value.specs.Kinds.{are_fit, kinds_of}
+use Rattle.hq_table.specs.Kept.{TableState}
 use Rattle.hq_server.specs.Places.{Grows}
 use Rattle.hq_server.proofs.Answering.{at-place, set-same}
-use Rattle.hq_server.proofs.Fitting.{rows-to, rows-not}
 use Rattle.hq_server.proofs.database.insert_at.Goals as goal
 
 pub returns-then-not-fits-clause-answer : goal.returns-then-not-fits-clause-answer
 returns-then-not-fits-clause-answer c =
     let table = c.index_mut-table.result.now in
     let at = at-place c.args.tables.now.items c.args.place table c.requires.place c.index_mut-table.ensures.value in
-    let exact : All (Fits (kinds_of table.columns)) c.args.rows.items → IsTrue c.fits.result = λ all. c.fits.ensures.1 (subst (All (Fits (kinds_of table.columns))) (sym c.deref.ensures.value) all) in
-    (table, at, inr (inl (refl, rows-not table.columns c.args.rows.items c.fits.result c.if-not-fits.true exact, set-same _ _ _ at)))
+    let fit : are_fit (kinds_of table.columns) c.args.rows.items ≡ false = ap (are_fit (kinds_of table.columns)) (sym c.deref.ensures.value) ∙ sym c.fits.ensures.test ∙ c.if-not-fits.true in
+    (table, at, inr (inl (refl, fit, set-same _ _ _ at)))
 
 pub returns-in-Ok-clause-answer : goal.returns-in-Ok-clause-answer
 returns-in-Ok-clause-answer c =
     let table = c.index_mut-table.result.now in
     let at = at-place c.args.tables.now.items c.args.place table c.requires.place c.index_mut-table.ensures.value in
-    let fit : list_all (fits table.columns) c.args.rows.items ≡ true = rows-to table.columns c.args.rows.items (subst (All (Fits (kinds_of table.columns))) c.deref.ensures.value (c.fits.ensures.0 c.if-not-fits.false)) in
+    let fit : are_fit (kinds_of table.columns) c.args.rows.items ≡ true = ap (are_fit (kinds_of table.columns)) (sym c.deref.ensures.value) ∙ sym c.fits.ensures.test ∙ c.if-not-fits.false in
     let grows : Grows c.args.rows.items table c.insert.new.self = record {
       name = ap (λ (t : TableState). t.name) c.in-Ok.ensures.def;
       columns = ap (λ (t : TableState). t.columns) c.in-Ok.ensures.def;

@@ -1,4 +1,5 @@
-use Rattle.std.proofs.Common.{◌≡◌, ◌≤◌, ◌-◌, ℕ, List}
+use Rattle.std.proofs.Common.{◌≡◌, ◌≤◌, ◌-◌, ℕ, List, true}
+use Rattle.std.specs.Io.KnownBytes.{IsAtEnd}
 use Rattle.std.specs.declared.option.Option.{Option}
 use Rattle.hq_io.specs.Told.{IfTold}
 use Rattle.hq_io.specs.Reading.{ahead}
@@ -11,6 +12,7 @@ invariant-loop-why g l = record {
   sink_label : g.B.Sink.label l.sink ≡ g.B.Sink.label l.fn.sink;
   source_faults : g.A.Source.faults l.fn.source ≤ g.A.Source.faults l.source;
   sink_faults : g.B.Sink.faults l.fn.sink ≤ g.B.Sink.faults l.sink;
+  read : (l.fn.reader.ended ≡ true → IsAtEnd (g.A.Source.left l.fn.source)) → l.reader.ended ≡ true → IsAtEnd (g.A.Source.left l.source);
   served : (whole first : Option (List ℕ)) → IfTold whole (ahead l.fn.reader (g.A.Source.left l.fn.source)) (Served first (g.B.Sink.given l.fn.sink) l.fn.database l.fn.reader) → IfTold whole (ahead l.reader (g.A.Source.left l.source)) (Served first (g.B.Sink.given l.sink) l.database l.reader);
 }
 

@@ -1,4 +1,4 @@
-use Rattle.std.proofs.Common.{ap, subst, arith, length, Ok, Err}
+use Rattle.std.proofs.Common.{◌≡◌, true, false, sym, ◌∙◌, ap, subst, arith, length, Ok, Err}
 use Rattle.hq_value.specs.declared.fault.Failed.{Failed}
 use Rattle.hq_io.specs.Reading.{pieces_given}
 use Rattle.hq_server.specs.Course.{AnswersInto}
@@ -13,7 +13,7 @@ returns-in-Err-clause-served g c = λ whole first s.
 pub returns-in-Limit-clause-served : goal.returns-in-Limit-clause-served
 returns-in-Limit-clause-served g c = λ whole first s.
     let live = live-by c.args.reader.now.ended (Ok c.in-Ok.kind) c.in-Ok.ensures.over (no-end c.in-Ok.kind (λ e. absurd (cc))) in
-    Ended-limit whole _ _ first _ c.args.database.now c.args.reader.now live s (c.in-Ok.ensures.limit c.in-Limit.is) (c.in-Ok.ensures.given c.in-Limit.is)
+    Ended-limit whole _ _ first _ c.args.database.now c.args.reader.now c.advance.new.self live c.advance.ensures.was_within.0 c.advance.ensures.was_within.1 c.advance.ensures.told (c.in-Ok.ensures.at_end (λ ended. absurd (let no : true ≡ false = sym ended ∙ live in cc))) s (c.in-Ok.ensures.limit c.in-Limit.is)
 
 pub returns-in-Ok-answer-clause-served : goal.returns-in-Ok-answer-clause-served
 returns-in-Ok-answer-clause-served g c = λ whole first s.

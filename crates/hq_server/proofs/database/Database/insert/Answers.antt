@@ -12,7 +12,7 @@ returns-in-Some c =
     let place = sym (c.place_of.ensures.place ∙ ap (λ ts. place_of c.args.name.now (kept_names ts)) (c.deref.ensures.value ∙ c.self.view_is)) ∙ c.in-Some.is in
     let moved = subst (λ rows. Inserts rows c.in-Some.place c.self.inside.tables.items c.insert_at.result new) c.into_vec.ensures c.insert_at.ensures.answer in
     let answer = subst (λ ts. Inserts c.args.rows c.in-Some.place ts c.insert_at.result new) c.self.view_is moved in
-    insert-kept c.shares_are_the_rows.ensures kept new c.args.name.now c.args.rows c.in-Some.place c.insert_at.result place answer
+    insert-kept c.shares_are_the_rows.ensures.shared kept new c.args.name.now c.args.rows c.in-Some.place c.insert_at.result place answer
 
 pub returns-in-None : goal.returns-in-None
 returns-in-None c = insert-none-kept c.args.self.now c.args.name.now c.args.rows (sym (c.place_of.ensures.place ∙ ap (λ ts. place_of c.args.name.now (kept_names ts)) (c.deref.ensures.value ∙ c.self.view_is)) ∙ c.in-None.is)
