@@ -1,9 +1,7 @@
 //! Blocks written and read.
-ghost use Rattle.std.specs.Prelude.{All, IsTrue};
-ghost use Rattle.hq_block.specs.Row.{Fits};
 
-use hq_block::{decode_block, encode_block, fits};
-use hq_value::{Chars, Kind, Kinds, NoMemory, Row, Sequence, Value};
+use hq_block::{decode_block, encode_block};
+use hq_value::{Chars, Kind, Kinds, NoMemory, Row, Sequence, Value, all_fit};
 use std::alloc::Global;
 
 /// Rows of one column, and how often their block is written and read.
@@ -35,19 +33,17 @@ fn value(alloc: Global, kind: Kind, number: u32) -> Result<Value, NoMemory> {
     if kind != Kind::Text {
         return Ok(Value::Int(i64::from(number)));
     }
-    let text = String::from_str(alloc, "a text of twenty-eight bytes")?;
+    let text = "a text of twenty-eight bytes";
     if text.len() > Chars::MOST {
         return Ok(Value::Null);
     }
-    Ok(Value::Text(Chars::new(text)))
+    Ok(Value::Text(Chars::from_str(alloc, text)?))
 }
 
 fn rows(alloc: Global, kind: Kind, count: u32) -> Result<Vec<Row>, NoMemory> {
     let mut rows = Vec::new(alloc);
     for number in 0..count {
-        let mut row = Row::new(alloc);
-        row.push(value(alloc, kind, number)?)?;
-        rows.push(row)?;
+        rows.push(Row::one(alloc, value(alloc, kind, number)?))?;
     }
     Ok(rows)
 }
@@ -56,12 +52,6 @@ fn kinds(alloc: Global, kind: Kind) -> Result<Kinds, NoMemory> {
     let mut kinds = Sequence::new(alloc);
     kinds.push(kind)?;
     Ok(kinds)
-}
-
-fn all_fit(kinds: &Kinds, rows: &[Row]) -> bool
-    ensures { IsTrue result → All (Fits kinds.now) rows.now }
-{
-    rows.iter().all(|row| fits(kinds, row))
 }
 
 // The block of the rows, if they are for one.

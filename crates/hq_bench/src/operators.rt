@@ -48,17 +48,14 @@ fn key(kind: Kind, number: u32) -> i64 {
     }
 }
 
-fn row(alloc: Global, key: i64, number: u32) -> Result<Row, NoMemory> {
-    let mut values = Vec::with_capacity(alloc, 2)?;
-    values.push(Value::Int(key))?;
-    values.push(Value::Int(i64::from(number)))?;
-    Ok(Sequence::from_vec(values))
+fn row(alloc: Global, key: i64, number: u32) -> Row {
+    Row::two(alloc, Value::Int(key), Value::Int(i64::from(number)))
 }
 
 fn mixed_rows(alloc: Global, kind: Kind, count: u32) -> Result<Vec<Row>, NoMemory> {
     let mut rows = Vec::with_capacity(alloc, count as usize)?;
     for number in 0..count {
-        rows.push(row(alloc, key(kind, number), number)?)?;
+        rows.push(row(alloc, key(kind, number), number))?;
     }
     Ok(rows)
 }
@@ -66,7 +63,7 @@ fn mixed_rows(alloc: Global, kind: Kind, count: u32) -> Result<Vec<Row>, NoMemor
 fn rows_in_order(alloc: Global, count: u32) -> Result<Vec<Row>, NoMemory> {
     let mut rows = Vec::with_capacity(alloc, count as usize)?;
     for number in 0..count {
-        rows.push(row(alloc, i64::from(number), number)?)?;
+        rows.push(row(alloc, i64::from(number), number))?;
     }
     Ok(rows)
 }
@@ -146,7 +143,7 @@ impl Operators {
             })
             .ok()?;
         let start = rt.process_cpu_time().ok()?;
-        let end = sort_rows(&order, None, rows);
+        let end = sort_rows(alloc, &order, None, rows);
         ended(rt, start, end)
     }
 }

@@ -29,11 +29,8 @@ fn table(alloc: Global) -> Result<Table, NoMemory> {
         kind: Kind::Int,
         not_null: false,
     })?;
-    let def = TableDef {
-        name: Name::new(Vec::from_slice(alloc, b"t")?),
-        columns,
-        keys: Keys::new(alloc),
-    };
+    let name = Name::new(Vec::from_slice(alloc, b"t")?);
+    let def = TableDef::new(alloc, name, columns, Keys::new(alloc))?;
     Table::new(alloc, 0, def)
 }
 
@@ -41,9 +38,7 @@ fn table(alloc: Global) -> Result<Table, NoMemory> {
 fn rows(alloc: Global, first: u32, last: u32) -> Result<Vec<Row>, NoMemory> {
     let mut rows = Vec::new(alloc);
     for number in first..last {
-        let mut row = Row::new(alloc);
-        row.push(Value::Int(i64::from(number)))?;
-        rows.push(row)?;
+        rows.push(Row::one(alloc, Value::Int(i64::from(number))))?;
     }
     Ok(rows)
 }
