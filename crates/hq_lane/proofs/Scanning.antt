@@ -22,7 +22,7 @@ read_none told bytes from kinds =
     record { bytes = []; long = sym none; are_told = λ t. sym (ap (λ (n : ℕ). take n (drop from bytes)) none); file = ([], tt, refl, refl) }
 
 -- a range and the next one
-slice_range-append : (bytes : List ℕ) (from at len : ℕ) → from ≤ at → slice_range bytes from at ++ slice_range bytes at (at + len) ≡ slice_range bytes from (at + len)
+pub slice_range-append : (bytes : List ℕ) (from at len : ℕ) → from ≤ at → slice_range bytes from at ++ slice_range bytes at (at + len) ≡ slice_range bytes from (at + len)
 slice_range-append bytes from at len le =
     let d : ℕ = at - from in
     let there : drop at bytes ≡ drop d (drop from bytes) = ap (λ (n : ℕ). drop n bytes) (omega arith) ∙ sym (drop-drop d from bytes) in
@@ -31,10 +31,11 @@ slice_range-append bytes from at len le =
     ap (λ (l : List ℕ). take d (drop from bytes) ++ l) ((λ i. take (next i) (there i)))
     ∙ sym (take-add d len (drop from bytes)) ∙ ap (λ (n : ℕ). take n (drop from bytes)) (sym both)
 
--- what is behind a head, and the head
-pub behind_head : (all front rest : List ℕ) (at len size : ℕ) → 16 < len → size ≡ len - 16 → front ≡ slice_range all at (at + 16) → rest ≡ slice_range all (at + 16) (at + 16 + size) → front ++ rest ≡ slice_range all at (at + len)
-behind_head all front rest at len size some is first next =
-    (λ i. first i ++ next i) ∙ slice_range-append all at (at + 16) size (omega arith) ∙ ap (λ (n : ℕ). slice_range all at n) (let e : at + 16 + size ≡ at + len = omega arith in e)
+-- bytes of a range, and those behind them
+pub bytes_behind : (all bytes now : List ℕ) (at have len : ℕ) → have ≤ len → bytes ≡ slice_range all at (at + have) → now ≡ bytes ++ slice_range all (at + have) (at + have + (len - have)) → now ≡ slice_range all at (at + len)
+bytes_behind all bytes now at have len within first next =
+    let end : at + have + (len - have) ≡ at + len = omega (arith, within) in
+    next ∙ ap (λ (l : List ℕ). l ++ slice_range all (at + have) (at + have + (len - have))) first ∙ slice_range-append all at (at + have) (len - have) (omega arith) ∙ ap (slice_range all at) end
 
 -- a block more is read
 pub read_more : (told : Bool) (bytes : List ℕ) (from at len : ℕ) (kinds : List Kind) (now new : List (List Value)) → from ≤ at → HasRead told (slice_range bytes from at) (at - from) kinds now

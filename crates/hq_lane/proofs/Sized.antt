@@ -21,7 +21,7 @@ pub record IsSized (block : List ℕ) : Type 0 where
   pub some : 0 < size_at block
 
 -- a number that stands in front
-number_in_front : (n : ℕ) (rest : List ℕ) → n < 2 ^ 32 → from_be_bytes w32 (take 4 (to_be_bytes w32 n ++ rest)) ≡ n
+pub number_in_front : (n : ℕ) (rest : List ℕ) → n < 2 ^ 32 → from_be_bytes w32 (take 4 (to_be_bytes w32 n ++ rest)) ≡ n
 number_in_front n rest below =
     ap (λ (p : ℕ × List ℕ). p.0) (some_is _ _ (guard_none _ _ _ (number_again w32 (2 ^ 32) wide32 n rest below)).1)
 

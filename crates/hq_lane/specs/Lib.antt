@@ -1,4 +1,6 @@
 pub mod BucketFiles
+pub mod Cursors
+pub mod FileBlocks
 pub mod Lanes
 pub mod Packing
 pub mod Scans

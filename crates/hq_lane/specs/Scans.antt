@@ -4,12 +4,17 @@
 --     HasRead told range len kinds rows     bytes of that length were read, and are a file of the rows
 --     TakesBlock kinds bytes old new        the bytes are a block, whose rows were added
 --     HasReadBlock told all at len kinds old new    so many bytes from `at` on are a block, whose rows were added
+--     PassesBlock told all at kinds tests head old new    the block of this head was passed, and its rows added unless it is skipped
 --     IsBadAt kinds from to at bytes        nothing that goes on from the bytes within the range begins with a block
 --     IfRows, OnStore, IfBadBlock           a fact for one end
-use Rattle.std.specs.Prelude.{◌≡◌, ℕ, ◌+◌, ◌-◌, ◌<◌, ◌≤◌, ◌++◌, Bool, List, length, take, slice_range, IsTrue}
+use Rattle.std.specs.Prelude.{◌≡◌, ℕ, ◌+◌, ◌-◌, ◌<◌, ◌≤◌, ◌++◌, Bool, true, false, List, length, take, slice_range, IsTrue}
 use Rattle.hq_value.specs.declared.value.Value.{Value}
 use Rattle.hq_value.specs.declared.kind.Kind.{Kind}
+use Rattle.hq_block.specs.declared.head.BlockHead.{BlockHead}
+use Rattle.hq_block.specs.declared.skip.ColumnTest.{ColumnTest}
 use Rattle.hq_block.specs.Block.{IsBlock, FileRows}
+use Rattle.hq_block.specs.Heads.{HeadLength, HeadIs}
+use Rattle.hq_block.specs.Skipping.{skips, read_length}
 use Rattle.hq_lane.specs.declared.scan_end.ScanEnd.{ScanEnd}
 use Rattle.hq_lane.specs.declared.scan_end.ScanEnd.TheVariants.{Rows, Store, BadBlock, NoMemory}
 
@@ -40,6 +45,20 @@ pub record HasReadBlock (told : Bool) (all : List ℕ) (at len : ℕ) (kinds : L
   pub long : length bytes ≡ len
   pub are_told : IsTrue told → bytes ≡ slice_range all at (at + len)
   pub taken : TakesBlock kinds bytes old new
+
+-- the block that begins at `at` was passed: these bytes were read, those that are there where they are told, and no
+-- others. They begin with its head and bounds. Where the tests skip it no row is added, else they are the block
+pub record PassesBlock (told : Bool) (all : List ℕ) (at : ℕ) (kinds : List Kind) (tests : List ColumnTest) (head : BlockHead) (old new : List (List Value)) : Type 0 where
+  pub bytes : List ℕ
+  pub are_told : IsTrue told → bytes ≡ slice_range all at (at + length bytes)
+  pub long : length bytes ≡ read_length tests head
+  pub short : length bytes ≤ head.length
+  pub front : ℕ
+  pub within : front ≤ length bytes
+  pub begun : HeadLength bytes front
+  pub says : HeadIs kinds head (take front bytes)
+  pub skipped : skips tests head.bounds ≡ true → new ≡ old
+  pub taken : skips tests head.bounds ≡ false → TakesBlock kinds bytes old new
 
 -- bytes from `at` on: nothing that goes on from them and does not pass the end of the range begins with a block
 pub record IsBadAt (kinds : List Kind) (from to at : ℕ) (bytes : List ℕ) : Type 0 where

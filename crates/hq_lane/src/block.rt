@@ -42,10 +42,11 @@ pub(crate) fn read_block<S: Store, R: Readable<S>>(
     ensures some { IsErrOf result Stop.BadBlock → 0 < length bytes.new.items }
     ensures long { OnOk result (0 < vec_len bytes.new) }
     ensures within { OnOk result (at + vec_len bytes.new ≤ to) }
-    ensures found { OnOk result (HasReadBlock R.tells (R.bytes range.now) at (vec_len bytes.new) kinds.now rows.old.items rows.new.items) }
+    ensures found { OnOk result (HasReadBlock (R.tells range.now) (R.bytes range.now) at (vec_len bytes.new) kinds.now rows.old.items rows.new.items) }
     ensures gave { OnOk result (GoesOnGiving S.faults S.given S.sound (vec_len bytes.new) store.old store.new) }
     ensures bad { IsErrOf result Stop.BadBlock → IsBadAt kinds.now at to at bytes.new.items }
-    ensures bad_told { IsErrOf result Stop.BadBlock → IsTrue R.tells → bytes.new.items ≡ slice_range (R.bytes range.now) at (at + length bytes.new.items) }
+    ensures bad_told { IsErrOf result Stop.BadBlock → IsTrue (R.tells range.now) → bytes.new.items ≡ slice_range (R.bytes range.now) at (at + length bytes.new.items) }
+    ensures kept { OnErr result (rows.new.items ≡ rows.old.items) }
 
     ensures cause { IsErrOf result Stop.Store → Rose (S.faults store.old) (S.faults store.new) }
     ensures store { IsSteady S.faults S.sound store.old store.new }
@@ -58,9 +59,9 @@ pub(crate) fn read_block<S: Store, R: Readable<S>>(
     Ok(())
 }
 
-// Reads a block's first 16 bytes, or as many as are left, and answers how many the block has. None comes exactly where
-// these bytes do not go on as a block within those that are left.
-fn read_front<S: Store, R: Readable<S>>(
+/// Reads a block's first 16 bytes, or as many as are left, and answers how many the block has. None comes exactly where
+/// these bytes do not go on as a block within those that are left.
+pub(crate) fn read_front<S: Store, R: Readable<S>>(
     store: &mut S,
     range: &R,
     at: u64,
@@ -75,7 +76,7 @@ fn read_front<S: Store, R: Readable<S>>(
     ensures front { IfOk result (λ found. ForSome found (λ _. vec_len bytes.new ≡ 16)) }
     ensures none { IfOk result (λ found. IsNone found → (kinds : List Sort) (more : List ℕ) → length (bytes.new.items ++ more) ≤ left → BeginsNoBlock kinds (bytes.new.items ++ more)) }
     ensures long { OnOk result (vec_len bytes.new ≡ min left 16) }
-    ensures told { OnOk result (IsTrue R.tells → bytes.new.items ≡ slice_range (R.bytes range.now) at (at + vec_len bytes.new)) }
+    ensures told { OnOk result (IsTrue (R.tells range.now) → bytes.new.items ≡ slice_range (R.bytes range.now) at (at + vec_len bytes.new)) }
     ensures gave { OnOk result (GoesOnGiving S.faults S.given S.sound (vec_len bytes.new) store.old store.new) }
     ensures gave_none { OnErr result (GoesOn S.faults S.given S.sound store.old store.new) }
     ensures not_bad { IsErrOf result Stop.BadBlock → ⊥ }
@@ -117,8 +118,8 @@ fn block_size(bytes: &[u8], left: usize) -> Option<usize>
     Some(len)
 }
 
-// Reads the rest of a block of so many bytes, of which the first 16 are there, by way of `rest`, and adds its rows.
-fn read_rest<S: Store, R: Readable<S>>(
+/// Reads the rest of a block of so many bytes, of which the first are there, by way of `rest`, and adds its rows.
+pub(crate) fn read_rest<S: Store, R: Readable<S>>(
     alloc: Global,
     store: &mut S,
     range: &R,
@@ -129,29 +130,32 @@ fn read_rest<S: Store, R: Readable<S>>(
     rest: &mut Vec<u8>,
     rows: &mut Vec<Row>,
 ) -> Result<(), Stop>
-    requires front { vec_len bytes.old ≡ 16 }
+    requires front { 16 ≤ vec_len bytes.old }
+    requires have { vec_len bytes.old ≤ len }
     requires size { len ≡ 16 + size_at bytes.old.items }
-    requires some { 16 < len }
     requires within { at + len ≤ R.end range.now }
     requires fits { at + len < 2 ^ 64 }
-    requires told { IsTrue R.tells → bytes.old.items ≡ slice_range (R.bytes range.now) at (at + 16) }
+    requires told { IsTrue (R.tells range.now) → bytes.old.items ≡ slice_range (R.bytes range.now) at (at + vec_len bytes.old) }
     ensures long { OnOk result (vec_len bytes.new ≡ len) }
-    ensures found { OnOk result (HasReadBlock R.tells (R.bytes range.now) at len kinds.now rows.old.items rows.new.items) }
-    ensures gave { OnOk result (GoesOnGiving S.faults S.given S.sound (len - 16) store.old store.new) }
+    ensures front { OnOk result (take (length bytes.old.items) bytes.new.items ≡ bytes.old.items) }
+    ensures told { OnOk result (IsTrue (R.tells range.now) → bytes.new.items ≡ slice_range (R.bytes range.now) at (at + len)) }
+    ensures taken { OnOk result (TakesBlock kinds.now bytes.new.items rows.old.items rows.new.items) }
+    ensures gave { OnOk result (GoesOnGiving S.faults S.given S.sound (len - vec_len bytes.old) store.old store.new) }
     ensures bad { IsErrOf result Stop.BadBlock → (more : List ℕ) → BeginsNoBlock kinds.now (bytes.new.items ++ more) }
     ensures bad_long { IsErrOf result Stop.BadBlock → length bytes.new.items ≡ len }
-    ensures bad_told { IsErrOf result Stop.BadBlock → IsTrue R.tells → bytes.new.items ≡ slice_range (R.bytes range.now) at (at + len) }
+    ensures bad_told { IsErrOf result Stop.BadBlock → IsTrue (R.tells range.now) → bytes.new.items ≡ slice_range (R.bytes range.now) at (at + len) }
+    ensures kept { OnErr result (rows.new.items ≡ rows.old.items) }
 
     ensures cause { IsErrOf result Stop.Store → Rose (S.faults store.old) (S.faults store.new) }
     ensures store { IsSteady S.faults S.sound store.old store.new }
 {
-    fill_rest(store, range, at, len, bytes, rest)?;
+    fill(store, range, at, len, bytes, rest)?;
     take_block(alloc, kinds, bytes, rows)?;
     Ok(())
 }
 
-// Adds the bytes behind the first 16, up to so many.
-fn fill_rest<S: Store, R: Readable<S>>(
+/// Adds the bytes behind those that are there, up to so many, by way of `rest`.
+pub(crate) fn fill<S: Store, R: Readable<S>>(
     store: &mut S,
     range: &R,
     at: u64,
@@ -159,24 +163,51 @@ fn fill_rest<S: Store, R: Readable<S>>(
     bytes: &mut Vec<u8>,
     rest: &mut Vec<u8>,
 ) -> Result<(), Stop>
-    requires front { vec_len bytes.old ≡ 16 }
-    requires some { 16 < len }
+    requires have { vec_len bytes.old ≤ len }
     requires within { at + len ≤ R.end range.now }
     requires fits { at + len < 2 ^ 64 }
-    requires told { IsTrue R.tells → bytes.old.items ≡ slice_range (R.bytes range.now) at (at + 16) }
+    requires told { IsTrue (R.tells range.now) → bytes.old.items ≡ slice_range (R.bytes range.now) at (at + vec_len bytes.old) }
     ensures long { OnOk result (vec_len bytes.new ≡ len) }
-    ensures front { OnOk result (take 16 bytes.new.items ≡ bytes.old.items) }
-    ensures told { OnOk result (IsTrue R.tells → bytes.new.items ≡ slice_range (R.bytes range.now) at (at + len)) }
-    ensures gave { OnOk result (GoesOnGiving S.faults S.given S.sound (len - 16) store.old store.new) }
+    ensures front { OnOk result (take (length bytes.old.items) bytes.new.items ≡ bytes.old.items) }
+    ensures told { OnOk result (IsTrue (R.tells range.now) → bytes.new.items ≡ slice_range (R.bytes range.now) at (at + len)) }
+    ensures gave { OnOk result (GoesOnGiving S.faults S.given S.sound (len - vec_len bytes.old) store.old store.new) }
+    ensures not_bad { IsErrOf result Stop.BadBlock → ⊥ }
+    ensures cause { IsErrOf result Stop.Store → Rose (S.faults store.old) (S.faults store.new) }
+    ensures store { IsSteady S.faults S.sound store.old store.new }
+{
+    // What was given before has a number of 64 bits.
+    let _given = store.given();
+    let have = bytes.len();
+    if have == len {
+        return Ok(());
+    }
+    add_bytes(store, range, at + have as u64, len - have, bytes, rest)
+}
+
+// Adds so many of the bytes from `from` on.
+fn add_bytes<S: Store, R: Readable<S>>(
+    store: &mut S,
+    range: &R,
+    from: u64,
+    count: usize,
+    bytes: &mut Vec<u8>,
+    rest: &mut Vec<u8>,
+) -> Result<(), Stop>
+    requires some { 0 < count }
+    requires within { from + count ≤ R.end range.now }
+    ensures long { OnOk result (vec_len bytes.new ≡ vec_len bytes.old + count) }
+    ensures front { OnOk result (take (length bytes.old.items) bytes.new.items ≡ bytes.old.items) }
+    ensures told { OnOk result (IsTrue (R.tells range.now) → bytes.new.items ≡ bytes.old.items ++ slice_range (R.bytes range.now) from (from + count)) }
+    ensures gave { OnOk result (GoesOnGiving S.faults S.given S.sound count store.old store.new) }
     ensures not_bad { IsErrOf result Stop.BadBlock → ⊥ }
     ensures cause { IsErrOf result Stop.Store → Rose (S.faults store.old) (S.faults store.new) }
     ensures store { IsSteady S.faults S.sound store.old store.new }
 {
     rest.clear();
-    let Ok(()) = rest.resize(len - HEAD, 0) else {
+    let Ok(()) = rest.resize(count, 0) else {
         return Err(Stop::NoMemory);
     };
-    let Ok(()) = range.read(store, at + HEAD as u64, rest) else {
+    let Ok(()) = range.read(store, from, rest) else {
         return Err(Stop::Store);
     };
     let Ok(()) = bytes.extend_from_slice(rest) else {
@@ -191,6 +222,7 @@ fn take_block(alloc: Global, kinds: &Kinds, bytes: &[u8], rows: &mut Vec<Row>) -
     requires says { length bytes.now ≡ 16 + size_at bytes.now }
     ensures taken { OnOk result (TakesBlock kinds.now bytes.now rows.old.items rows.new.items) }
     ensures bad { IsErrOf result Stop.BadBlock → (more : List ℕ) → BeginsNoBlock kinds.now (bytes.now ++ more) }
+    ensures kept { OnErr result (rows.new.items ≡ rows.old.items) }
     ensures not_store { IsErrOf result Stop.Store → ⊥ }
 {
     match decode_block_into(alloc, kinds, bytes, rows) {

@@ -251,7 +251,7 @@ impl<F: StoredFile, Z: SealCopy> BucketFile<F, Z> {
 impl<F: StoredFile, Z: SealCopy, S: Store<File = F, Seal = Z>> Readable<S> for BucketFile<F, Z> {
     ghost use Rattle.hq_lane.specs.BucketFiles.{good_bytes};
 
-    ghost tells = { F.tells };
+    ghost tells = { λ f. F.tells };
 
     ghost bytes = { good_bytes };
 

@@ -90,12 +90,12 @@ fn scan<S: Store, R: Readable<S>>(
 ) -> ScanEnd
     requires order { from ≤ to }
     requires within { to ≤ R.end range.now }
-    requires file { IsTrue R.tells → IsFile kinds.now (slice_range (R.bytes range.now) from to) }
-    ensures rows { IfRows result (HasRead R.tells (slice_range (R.bytes range.now) from to) (to - from) kinds.now) }
+    requires file { IsTrue (R.tells range.now) → IsFile kinds.now (slice_range (R.bytes range.now) from to) }
+    ensures rows { IfRows result (HasRead (R.tells range.now) (slice_range (R.bytes range.now) from to) (to - from) kinds.now) }
     ensures fit { IfRows result (All (Fits kinds.now)) }
     ensures gave { IfRows result (λ _. GoesOnGiving S.faults S.given S.sound (to - from) store.old store.new) }
     ensures bad { IfBadBlock result (IsBadAt kinds.now from to) }
-    ensures never_bad { IsTrue R.tells → IfBadBlock result (λ _ _. ⊥) }
+    ensures never_bad { IsTrue (R.tells range.now) → IfBadBlock result (λ _ _. ⊥) }
 
     ensures cause { OnStore result (Rose (S.faults store.old) (S.faults store.new)) }
     ensures store { IsSteady S.faults S.sound store.old store.new }

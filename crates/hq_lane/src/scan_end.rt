@@ -1,4 +1,4 @@
-//! How a scan ends.
+//! How a scan ends, and what ends it early.
 
 use hq_value::Row;
 
@@ -7,6 +7,14 @@ use hq_value::Row;
 #[derive(Debug, Drop)]
 pub enum ScanEnd {
     Rows(Vec<Row>),
+    Store,
+    BadBlock { at: u64, bytes: Vec<u8> },
+    NoMemory,
+}
+
+/// Why a cursor passed no block: a fault of the store, bytes of the file from `at` on that begin no block, or no memory.
+#[derive(Debug, Drop)]
+pub enum ScanFault {
     Store,
     BadBlock { at: u64, bytes: Vec<u8> },
     NoMemory,

@@ -27,6 +27,14 @@ pub struct UntoldSeal {
     pub(crate) seal: MemSeal,
 }
 
+impl Model for UntoldSeal {
+    ghost use Rattle.hq_store.specs.Pages.{Shared};
+
+    ghost Value = { Shared };
+
+    ghost view = { λ s. s.seal };
+}
+
 impl StoredFile for UntoldFile {
     ghost use Rattle.std.specs.Prelude.{false};
 
@@ -40,7 +48,7 @@ impl SealCopy for UntoldSeal {
 
     ghost tells = { false };
 
-    ghost state = { λ s. record { id = s.seal.id; bytes = s.seal.bytes; len = length s.seal.bytes } };
+    ghost state = { λ s. record { id = s.id; bytes = s.bytes; len = length s.bytes } };
 
     fn copy(&self) -> Result<UntoldSeal, NoMemory> {
         let seal = self.seal.copy()?;

@@ -10,8 +10,8 @@ pub loop-at-init : goal.loop-at-init
 loop-at-init g c = record {
   behind = omega arith;
   before = c.requires.order;
-  read = subst (λ (rows : List (List Value)). HasRead g.R.Readable.tells (slice_range (g.R.Readable.bytes c.args.range.now) c.args.from c.args.from) (c.args.from - c.args.from) c.args.kinds.now rows)
-      (sym c.new-rows.ensures.items) (read_none g.R.Readable.tells (g.R.Readable.bytes c.args.range.now) c.args.from c.args.kinds.now);
+  read = subst (λ (rows : List (List Value)). HasRead (g.R.Readable.tells c.args.range.now) (slice_range (g.R.Readable.bytes c.args.range.now) c.args.from c.args.from) (c.args.from - c.args.from) c.args.kinds.now rows)
+      (sym c.new-rows.ensures.items) (read_none (g.R.Readable.tells c.args.range.now) (g.R.Readable.bytes c.args.range.now) c.args.from c.args.kinds.now);
   gave = gave_none _ _ _ (c.args.from - c.args.from) _ (omega arith) (omega (arith, c.given-given.ensures));
 }
 
@@ -23,9 +23,9 @@ loop-at-preserved g c =
     record {
       behind = omega arith;
       before = omega (arith, told.within, c.len.ensures);
-      read = subst (λ (n : ℕ). HasRead g.R.Readable.tells (slice_range (g.R.Readable.bytes c.args.range.now) c.args.from (c.loop-at.at + n)) (c.loop-at.at + n - c.args.from) c.args.kinds.now c.read_block.new.rows.items)
+      read = subst (λ (n : ℕ). HasRead (g.R.Readable.tells c.args.range.now) (slice_range (g.R.Readable.bytes c.args.range.now) c.args.from (c.loop-at.at + n)) (c.loop-at.at + n - c.args.from) c.args.kinds.now c.read_block.new.rows.items)
           (sym c.len.ensures)
-          (read_more g.R.Readable.tells (g.R.Readable.bytes c.args.range.now) c.args.from c.loop-at.at used c.args.kinds.now c.loop-at.rows.items c.read_block.new.rows.items so_far.behind so_far.read told.found);
+          (read_more (g.R.Readable.tells c.args.range.now) (g.R.Readable.bytes c.args.range.now) c.args.from c.loop-at.at used c.args.kinds.now c.loop-at.rows.items c.read_block.new.rows.items so_far.behind so_far.read told.found);
       gave = gave_more _ _ _ (c.loop-at.at - c.args.from) used _ _ _ _ (omega (arith, c.len.ensures)) so_far.gave told.gave;
     }
 

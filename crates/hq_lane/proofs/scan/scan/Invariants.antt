@@ -8,7 +8,7 @@ abbrev pub invariant-loop-at : goal.invariant-loop-at
 invariant-loop-at g l = record {
   behind : l.from ≤ l.at;
   before : l.at ≤ l.to;
-  read : HasRead g.R.Readable.tells (slice_range (g.R.Readable.bytes l.range) l.from l.at) (l.at - l.from) l.kinds l.rows.items;
+  read : HasRead (g.R.Readable.tells l.range) (slice_range (g.R.Readable.bytes l.range) l.from l.at) (l.at - l.from) l.kinds l.rows.items;
   gave : GoesOnGiving g.S.Store.faults g.S.Store.given g.S.Store.sound (l.at - l.from) l.initial.store l.store;
 }
 
