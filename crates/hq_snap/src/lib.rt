@@ -1,10 +1,19 @@
-//! A table as a look at the catalogue saw it: its definition, and the seals of its lanes.
+//! A table as a look at the catalogue saw it: its definition, and the seals of its lanes. A look brings the seals that
+//! changed since an earlier one, and a cache puts them behind those that it has.
 #![tactic(auto)]
 
+mod cache;
+mod changes;
 mod lane_seals;
+mod laws;
+mod scope;
 mod seal_slot;
 mod table_snap;
 
+pub use cache::SnapCache;
+pub use changes::Changed;
 pub use lane_seals::LaneSeals;
+pub use laws::what_changed_brings_a_look_up_to_date;
+pub use scope::{Have, Scope};
 pub use seal_slot::SealSlot;
-pub use table_snap::{TableSnap, copy_table};
+pub use table_snap::{TableSnap, copy_since};

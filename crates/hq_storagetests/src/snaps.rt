@@ -1,19 +1,26 @@
-//! A snapshot has the definition and the seals of its table.
+//! What a look brings of a table, and what a cache makes of it.
 
 use hq_cases as cases;
-use hq_snap::{LaneSeals, TableSnap, copy_table};
+use hq_snap::{Changed, Have, LaneSeals, Scope, SnapCache, TableSnap, copy_since};
 use hq_store::{MemSeal, MemStore, SealCopy, Store, StoreFault};
 use hq_value::{Column, Columns, FileId, Keys, Kind, Name, NoMemory, TableDef};
 use std::alloc::Global;
 use std::test::Fail;
 
+// A table whose files are sealed one by one, each at a place of a log, and a cache that looks at it.
+#[derive(Drop)]
+struct Case {
+    store: MemStore,
+    def: TableDef,
+    lanes: Vec<LaneSeals<MemSeal>>,
+    changed: Changed,
+    cache: SnapCache<MemSeal>,
+    place: u32,
+}
+
 // A seal of a file with these bytes.
-fn sealed<S: Store>(store: &mut S, bucket: u8, bytes: &[u8]) -> Result<S::Seal, StoreFault> {
-    let mut file = store.create(FileId {
-        table: 3,
-        lane: 0,
-        bucket,
-    })?;
+fn sealed<S: Store>(store: &mut S, id: FileId, bytes: &[u8]) -> Result<S::Seal, StoreFault> {
+    let mut file = store.create(id)?;
     store.append(&mut file, bytes)?;
     store.flush(&mut file)?;
     Ok(store.seal(&mut file))
@@ -32,74 +39,143 @@ fn table_of_one_column(alloc: Global) -> Result<TableDef, NoMemory> {
     TableDef::new(alloc, Name::new(b"t".to_vec(alloc)?), columns, keys)
 }
 
-fn show_definition(rt: HostRuntime, def: &TableDef) -> Result<(), Fail> {
-    let name = cases::shown(rt.alloc(), def.name().as_bytes())?;
-    print!(rt; "  {name}")?;
-    for column in def.columns().as_slice() {
-        let name = cases::shown(rt.alloc(), column.name.as_bytes())?;
-        print!(rt; ", {name} {:?} {}", column.kind, column.not_null)?;
+fn empty_lanes(alloc: Global) -> Result<Vec<LaneSeals<MemSeal>>, NoMemory> {
+    let mut lanes = Vec::new(alloc);
+    for _ in 0..64usize {
+        lanes.push(LaneSeals::empty(alloc)?)?;
     }
-    println!(rt; ", keys {:?}", def.keys().as_slice())?;
-    Ok(())
+    Ok(lanes)
 }
 
-// How many bytes a bucket's seal has, where there is one.
-fn length_at(lanes: &[LaneSeals<MemSeal>], place: usize, bucket: u8) -> Option<u64> {
-    if bucket > 15 {
-        return None;
+// The names of a text, parted by blanks. Without any the scope is all tables.
+fn scope_of(alloc: Global, text: &str) -> Result<Scope, Fail> {
+    let mut names = Vec::new(alloc);
+    for word in text.split_whitespace() {
+        let bytes = word.as_bytes();
+        if !bytes.is_empty() && bytes.len() <= Name::MOST {
+            names.push(Name::new(bytes.to_vec(alloc)?))?;
+        }
     }
-    let seal = lanes.get(place)?.get(bucket)?;
-    Some(seal.len())
+    if names.is_empty() {
+        return Ok(Scope::All);
+    }
+    Ok(Scope::Names(names))
 }
 
-// The three bytes under a bucket's seal.
-fn bytes_at(store: &mut MemStore, lane: &LaneSeals<MemSeal>, bucket: u8) -> [u8; 3] {
-    let mut into = [0u8; 3];
-    if bucket > 15 {
-        return into;
-    }
-    let Some(seal) = lane.get(bucket) else {
-        return into;
-    };
-    if seal.len() == 3 {
-        let _ = store.read(seal, 0, &mut into);
-    }
-    into
-}
-
-fn show_seals(
-    rt: HostRuntime,
-    store: &mut MemStore,
-    snap: &TableSnap<MemSeal>,
-) -> Result<(), Fail> {
-    println!(rt; "  table {}, {} bytes", snap.table(), snap.length())?;
+// The seals of a table, as lane, bucket and length.
+fn show_seals(rt: HostRuntime, snap: &TableSnap<MemSeal>) -> Result<(), Fail> {
+    print!(rt; " table {}, {} bytes:", snap.table(), snap.length())?;
+    let mut n = 0u32;
     for lane in snap.lanes() {
-        println!(rt; "  lane {}", lane.lane())?;
+        for bucket in 0..16u8 {
+            if let Some(seal) = lane.get(bucket) {
+                print!(rt; " {n}.{bucket} {}", seal.len())?;
+            }
+        }
+        n = n.saturating_add(1);
     }
-    for (place, bucket) in [(0, 15), (0, 2), (0, 3), (1, 15), (2, 15)] {
-        let length = length_at(snap.lanes(), place, bucket);
-        println!(rt; "  {place} {bucket}: {length:?}")?;
-    }
-    if let [first, ..] = snap.lanes() {
-        let bytes = cases::shown(rt.alloc(), &bytes_at(store, first, 2))?;
-        println!(rt; "  {bytes}")?;
-    }
+    println!(rt; "")?;
     Ok(())
 }
 
-/// Shows a snapshot of a table of two lanes, of which the second has no seal.
+impl Case {
+    fn new(alloc: Global) -> Result<Case, Fail> {
+        Ok(Case {
+            store: MemStore::new(alloc, Vec::new(alloc)),
+            def: table_of_one_column(alloc)?,
+            lanes: empty_lanes(alloc)?,
+            changed: Changed::none(alloc)?,
+            cache: SnapCache::new(alloc),
+            place: 0,
+        })
+    }
+
+    // Seals a file with these bytes, and puts the seal in its place.
+    fn commit(&mut self, n: usize, bucket: u8, text: &str) -> Result<(), Fail> {
+        if n >= 64 || n >= self.lanes.len() || bucket > 15 || !self.lanes[n].has_place(bucket) {
+            return Ok(());
+        }
+        let id = FileId {
+            table: 3,
+            lane: n as u8,
+            bucket,
+        };
+        let seal = sealed(&mut self.store, id, text.as_bytes())?;
+        self.lanes[n].put(bucket, seal);
+        self.place = self.place.saturating_add(1);
+        self.changed.note(n as u8, bucket, u64::from(self.place));
+        Ok(())
+    }
+
+    // What the cache has of all tables: the place of the only one, or 0.
+    fn at(&self, alloc: Global) -> Result<u64, Fail> {
+        let have = self.cache.have(alloc, &Scope::All)?;
+        Ok(match have.first() {
+            None => 0,
+            Some(one) => one.at,
+        })
+    }
+
+    // Shows what changed since the last look, and the cache with it.
+    fn look(&mut self, rt: HostRuntime) -> Result<(), Fail> {
+        let alloc = rt.alloc();
+        let at = self.at(alloc)?;
+        if self.lanes.len() != 64 {
+            return Ok(());
+        }
+        let snap = copy_since(alloc, 3, &self.def, &self.lanes, &self.changed, at)?;
+        print!(rt; "  since {at},")?;
+        show_seals(rt, &snap)?;
+        self.cache
+            .merge(u64::from(self.place), vec![in alloc; snap]?)?;
+        self.place = self.place.saturating_add(1);
+        for cached in self.cache.tables() {
+            print!(rt; "  cached,")?;
+            show_seals(rt, cached)?;
+        }
+        Ok(())
+    }
+
+    // Shows what the cache has of a scope.
+    fn have(&self, rt: HostRuntime, text: &str) -> Result<(), Fail> {
+        let alloc = rt.alloc();
+        let scope = scope_of(alloc, text)?;
+        let have = self.cache.have(alloc, &scope)?;
+        print!(rt; "  {text}:")?;
+        for Have { table, at } in have.as_slice() {
+            print!(rt; " table {table} at {at}")?;
+        }
+        println!(rt; "")?;
+        Ok(())
+    }
+
+    fn line(&mut self, rt: HostRuntime, word: &str, rest: &str) -> Result<(), Fail> {
+        match word {
+            "commit" => {
+                let (n, rest) = cases::counted(rest);
+                let (bucket, text) = cases::counted(rest);
+                self.commit(n, bucket.min(255) as u8, text)?;
+            }
+            "look" => self.look(rt)?,
+            "have" => self.have(rt, rest)?,
+            _ => {
+                println!(rt; "{word} {rest}")?;
+                *self = Case::new(rt.alloc())?;
+            }
+        }
+        Ok(())
+    }
+}
+
+/// Shows the cases of `snaps.txt`.
 pub fn run(rt: HostRuntime) -> Result<(), Fail> {
     let alloc = rt.alloc();
-    let mut store = MemStore::new(alloc, Vec::new(alloc));
-    let mut lane = LaneSeals::empty(alloc, 0)?;
-    lane.put(15, sealed(&mut store, 15, b"hello")?);
-    lane.put(2, sealed(&mut store, 2, b"abc")?);
-    let lanes = vec![in alloc; lane, LaneSeals::empty(alloc, 5)?]?;
-    let def = table_of_one_column(alloc)?;
-    println!(rt; "a definition is copied whole")?;
-    show_definition(rt, &def.copy()?)?;
-    println!(rt; "a snapshot has the seals of the table")?;
-    let snap = copy_table(alloc, 3, &def, &lanes)?;
-    show_definition(rt, snap.def())?;
-    show_seals(rt, &mut store, &snap)
+    let text = cases::text_of(rt, "snaps.txt")?;
+    let mut case = Case::new(alloc)?;
+    for line in text.as_str().lines() {
+        if let Some((word, rest)) = cases::line_of(line) {
+            case.line(rt, word, rest)?;
+        }
+    }
+    Ok(())
 }

@@ -1,0 +1,3 @@
+mod Examples
+pub mod Others
+pub mod Seen

@@ -1,0 +1,3 @@
+pub mod Cached
+pub mod Elements
+pub mod Since
