@@ -13,9 +13,9 @@ use Rattle.hq_bind.specs.Faults.{create_refusal, is_no_column}
 use Rattle.hq_bind.specs.Targets.{column_names}
 use Rattle.hq_bind.specs.Bound.{created, key_place}
 use Rattle.hq_bind.proofs.Grouped.{first_within, found_within, or_parts, not_false}
-use Rattle.hq_bind.proofs.Placed.{both_true}
+use Rattle.hq_bind.proofs.OverSources.{both_true}
 
-same_is : (v w : List ℕ) → same_names v w ≡ true → v ≡ w
+pub same_is : (v w : List ℕ) → same_names v w ≡ true → v ≡ w
 same_is [] [] h = refl
 same_is [] (y ∷ ys) h = cc
 same_is (x ∷ xs) [] h = cc
@@ -25,7 +25,7 @@ same_is (x ∷ xs) (y ∷ ys) h =
     let rest : xs ≡ ys = same_is xs ys p.1 in
     cc
 
-same_itself : (v : List ℕ) → same_names v v ≡ true
+pub same_itself : (v : List ℕ) → same_names v v ≡ true
 same_itself [] = refl
 same_itself (x ∷ xs) = rw (eq-eqb x x refl, same_itself xs) refl
 
@@ -69,7 +69,7 @@ fresh columns d v (w ∷ names) hv h n =
         let yes : same_names v w ≡ true = subst (λ z. same_names v z ≡ true) same (same_itself v) in
         cc
 
-distinct_first : {X : Type 0} (same : X → X → Bool) (x : X) (xs : List X) → are_distinct same (x ∷ xs) ≡ true → (list_any (same x) xs ≡ false) × (are_distinct same xs ≡ true)
+pub distinct_first : {X : Type 0} (same : X → X → Bool) (x : X) (xs : List X) → are_distinct same (x ∷ xs) ≡ true → (list_any (same x) xs ≡ false) × (are_distinct same xs ≡ true)
 distinct_first same x xs h = go (list_any (same x) xs) refl h
   where
     go : (b : Bool) → list_any (same x) xs ≡ b → (not b && are_distinct same xs) ≡ true → (list_any (same x) xs ≡ false) × (are_distinct same xs ≡ true)
@@ -124,3 +124,7 @@ created_is c some h =
       keys_distinct = places_distinct c.columns (some_column c.columns n) c.keys a.found a.keys;
       keys_within = places_within c.columns c.keys a.found;
     }
+
+pub made_is : (c : CreateStatement) (name : Name) (columns : List Column) (keys : List ℕ) → name ≡ c.name → columns ≡ c.columns → keys ≡ map (key_place c.columns) c.keys → has_some c.columns ≡ true → create_refusal c ≡ None
+    → IsDefinition (record { name = name; columns = columns; keys = keys })
+made_is c name columns keys n l k some h = rw (n, l, k) (created_is c some h)

@@ -21,23 +21,23 @@ use Rattle.hq_bind.specs.Scope.{place_of}
 use Rattle.hq_bind.specs.Findings.{findings, findings_in, is_among, of_aggregate, of_two, of_compared, of_not, of_null_test}
 use Rattle.hq_bind.specs.Bound.{placed, placed_in, over_groups, over_in, aggregates_in, aggregates_of, aggregate_of, group_column, placed_column}
 use Rattle.hq_bind.proofs.AtParts.{parts-Arith, parts-Compare, parts-And, parts-Or, parts-Not, parts-IsNull, arith-Compare, arith-And, arith-Or, arith-Not, arith-IsNull, below-Arith, below-Compare, below-And, below-Or, below-Not, below-IsNull}
-use Rattle.hq_bind.proofs.Placed.{both_true, or_false, placed_parts, placed_parts_in, sum_column_in}
+use Rattle.hq_bind.proofs.OverSources.{both_true, or_false, placed_parts, placed_parts_in, sum_column_in}
 
 -- ---- HAVING has no arithmetic outside of its aggregates
 
-operand_over : (cs : List SourceColumn) (gs : List ℕ) (at : ℕ) (x : SqlExpr) → is_operand true x ≡ true → has_arith (over_groups cs gs at x) ≡ false
+operand_over : (cs : List SourceColumn) (gs : List ℕ) (at : List Aggregate) (x : SqlExpr) → is_operand true x ≡ true → has_arith (over_groups cs gs at x) ≡ false
 operand_over cs gs at (e.Literal v) h = refl
 operand_over cs gs at (e.Column r) h = refl
 operand_over cs gs at e.CountAll h = refl
 operand_over cs gs at (e.Aggregate' k _ of) h = refl
 operand_over cs gs at _ h = cc
 
-operand_over_in : {m : _} (cs : List SourceColumn) (gs : List ℕ) (at : ℕ) (of : Row_of-SqlExpr m) → operand_in true of ≡ true → has_arith (over_in cs gs at of) ≡ false
+operand_over_in : {m : _} (cs : List SourceColumn) (gs : List ℕ) (at : List Aggregate) (of : Row_of-SqlExpr m) → operand_in true of ≡ true → has_arith (over_in cs gs at of) ≡ false
 operand_over_in cs gs at end_of-SqlExpr h = refl
 operand_over_in cs gs at (more_of-SqlExpr x rest) h = operand_over cs gs at x h
 
 mutual
-  pub cond_over : (cs : List SourceColumn) (gs : List ℕ) (at : ℕ) (x : SqlExpr) → is_cond true x ≡ true → has_arith (over_groups cs gs at x) ≡ false
+  pub cond_over : (cs : List SourceColumn) (gs : List ℕ) (at : List Aggregate) (x : SqlExpr) → is_cond true x ≡ true → has_arith (over_groups cs gs at x) ≡ false
   cond_over cs gs at (e.Literal v) h = refl
   cond_over cs gs at (e.Column r) h = refl
   cond_over cs gs at e.CountAll h = refl
@@ -45,36 +45,36 @@ mutual
   cond_over cs gs at (e.Arith' k _ left _ right) h = cc
   cond_over cs gs at (e.Compare' k _ left _ right) h =
       let p = both_true (operand_in true left) (operand_in true right) h in
-      arith-Compare k (over_in cs gs at left) (over_in cs gs (at + length (aggregates_of cs left)) right) ∙ or_false (has_arith (over_in cs gs at left)) (has_arith (over_in cs gs (at + length (aggregates_of cs left)) right)) (operand_over_in cs gs at left p.0) (operand_over_in cs gs (at + length (aggregates_of cs left)) right p.1)
+      arith-Compare k (over_in cs gs at left) (over_in cs gs (at ++ aggregates_of cs left) right) ∙ or_false (has_arith (over_in cs gs at left)) (has_arith (over_in cs gs (at ++ aggregates_of cs left) right)) (operand_over_in cs gs at left p.0) (operand_over_in cs gs (at ++ aggregates_of cs left) right p.1)
   cond_over cs gs at (e.And' _ left _ right) h =
       let p = both_true (cond_in true left) (cond_in true right) h in
-      arith-And (over_in cs gs at left) (over_in cs gs (at + length (aggregates_of cs left)) right) ∙ or_false (has_arith (over_in cs gs at left)) (has_arith (over_in cs gs (at + length (aggregates_of cs left)) right)) (cond_over_in cs gs at left p.0) (cond_over_in cs gs (at + length (aggregates_of cs left)) right p.1)
+      arith-And (over_in cs gs at left) (over_in cs gs (at ++ aggregates_of cs left) right) ∙ or_false (has_arith (over_in cs gs at left)) (has_arith (over_in cs gs (at ++ aggregates_of cs left) right)) (cond_over_in cs gs at left p.0) (cond_over_in cs gs (at ++ aggregates_of cs left) right p.1)
   cond_over cs gs at (e.Or' _ left _ right) h =
       let p = both_true (cond_in true left) (cond_in true right) h in
-      arith-Or (over_in cs gs at left) (over_in cs gs (at + length (aggregates_of cs left)) right) ∙ or_false (has_arith (over_in cs gs at left)) (has_arith (over_in cs gs (at + length (aggregates_of cs left)) right)) (cond_over_in cs gs at left p.0) (cond_over_in cs gs (at + length (aggregates_of cs left)) right p.1)
+      arith-Or (over_in cs gs at left) (over_in cs gs (at ++ aggregates_of cs left) right) ∙ or_false (has_arith (over_in cs gs at left)) (has_arith (over_in cs gs (at ++ aggregates_of cs left) right)) (cond_over_in cs gs at left p.0) (cond_over_in cs gs (at ++ aggregates_of cs left) right p.1)
   cond_over cs gs at (e.Not' _ of) h = arith-Not (over_in cs gs at of) ∙ cond_over_in cs gs at of h
   cond_over cs gs at (e.IsNull' _ of) h = arith-IsNull (over_in cs gs at of) ∙ operand_over_in cs gs at of h
 
-  pub cond_over_in : {m : _} (cs : List SourceColumn) (gs : List ℕ) (at : ℕ) (of : Row_of-SqlExpr m) → cond_in true of ≡ true → has_arith (over_in cs gs at of) ≡ false
+  pub cond_over_in : {m : _} (cs : List SourceColumn) (gs : List ℕ) (at : List Aggregate) (of : Row_of-SqlExpr m) → cond_in true of ≡ true → has_arith (over_in cs gs at of) ≡ false
   cond_over_in cs gs at end_of-SqlExpr h = refl
   cond_over_in cs gs at (more_of-SqlExpr x rest) h = cond_over cs gs at x h
 
 -- ---- it has no more parts than the tree weighs
 
 mutual
-  pub over_parts : (cs : List SourceColumn) (gs : List ℕ) (at : ℕ) (x : SqlExpr) → parts (over_groups cs gs at x) ≤ weight x
+  pub over_parts : (cs : List SourceColumn) (gs : List ℕ) (at : List Aggregate) (x : SqlExpr) → parts (over_groups cs gs at x) ≤ weight x
   over_parts cs gs at (e.Literal v) = omega arith
   over_parts cs gs at (e.Column r) = omega arith
   over_parts cs gs at e.CountAll = omega arith
   over_parts cs gs at (e.Aggregate' k _ of) = omega arith
-  over_parts cs gs at (e.Arith' k _ left _ right) = omega (arith, parts-Arith k (over_in cs gs at left) (over_in cs gs (at + length (aggregates_of cs left)) right), over_parts_in cs gs at left, over_parts_in cs gs (at + length (aggregates_of cs left)) right)
-  over_parts cs gs at (e.Compare' k _ left _ right) = omega (arith, parts-Compare k (over_in cs gs at left) (over_in cs gs (at + length (aggregates_of cs left)) right), over_parts_in cs gs at left, over_parts_in cs gs (at + length (aggregates_of cs left)) right)
-  over_parts cs gs at (e.And' _ left _ right) = omega (arith, parts-And (over_in cs gs at left) (over_in cs gs (at + length (aggregates_of cs left)) right), over_parts_in cs gs at left, over_parts_in cs gs (at + length (aggregates_of cs left)) right)
-  over_parts cs gs at (e.Or' _ left _ right) = omega (arith, parts-Or (over_in cs gs at left) (over_in cs gs (at + length (aggregates_of cs left)) right), over_parts_in cs gs at left, over_parts_in cs gs (at + length (aggregates_of cs left)) right)
+  over_parts cs gs at (e.Arith' k _ left _ right) = omega (arith, parts-Arith k (over_in cs gs at left) (over_in cs gs (at ++ aggregates_of cs left) right), over_parts_in cs gs at left, over_parts_in cs gs (at ++ aggregates_of cs left) right)
+  over_parts cs gs at (e.Compare' k _ left _ right) = omega (arith, parts-Compare k (over_in cs gs at left) (over_in cs gs (at ++ aggregates_of cs left) right), over_parts_in cs gs at left, over_parts_in cs gs (at ++ aggregates_of cs left) right)
+  over_parts cs gs at (e.And' _ left _ right) = omega (arith, parts-And (over_in cs gs at left) (over_in cs gs (at ++ aggregates_of cs left) right), over_parts_in cs gs at left, over_parts_in cs gs (at ++ aggregates_of cs left) right)
+  over_parts cs gs at (e.Or' _ left _ right) = omega (arith, parts-Or (over_in cs gs at left) (over_in cs gs (at ++ aggregates_of cs left) right), over_parts_in cs gs at left, over_parts_in cs gs (at ++ aggregates_of cs left) right)
   over_parts cs gs at (e.Not' _ of) = omega (arith, parts-Not (over_in cs gs at of), over_parts_in cs gs at of)
   over_parts cs gs at (e.IsNull' _ of) = omega (arith, parts-IsNull (over_in cs gs at of), over_parts_in cs gs at of)
 
-  pub over_parts_in : {m : _} (cs : List SourceColumn) (gs : List ℕ) (at : ℕ) (of : Row_of-SqlExpr m) → parts (over_in cs gs at of) ≤ weight_in of
+  pub over_parts_in : {m : _} (cs : List SourceColumn) (gs : List ℕ) (at : List Aggregate) (of : Row_of-SqlExpr m) → parts (over_in cs gs at of) ≤ weight_in of
   over_parts_in cs gs at end_of-SqlExpr = omega arith
   over_parts_in cs gs at (more_of-SqlExpr x rest) = over_parts cs gs at x
 
@@ -231,36 +231,36 @@ both_below a b h h' = rw (h, h') refl
 mutual
   unfolding of_two of_compared of_not of_null_test
 
-  pub over_below : (cs : List SourceColumn) (gs : List ℕ) (at n : ℕ) (x : SqlExpr) → (findings cs gs x).ungrouped ≡ false → length gs ≤ n → at + length (aggregates_in cs x) ≤ n
+  pub over_below : (cs : List SourceColumn) (gs : List ℕ) (at : List Aggregate) (n : ℕ) (x : SqlExpr) → (findings cs gs x).ungrouped ≡ false → length gs ≤ n → length gs + (length at + length (aggregates_in cs x)) ≤ n
       → is_below n (over_groups cs gs at x) ≡ true
   over_below cs gs at n (e.Literal v) h g l = refl
   over_below cs gs at n (e.Column r) h g l = let w = among_within gs (place_of cs r) (not_false (is_among gs (place_of cs r)) h) in lt-ltb (group_column cs gs r) n (omega (arith, w, g))
-  over_below cs gs at n e.CountAll h g l = lt-ltb at n (omega (arith, l))
-  over_below cs gs at n (e.Aggregate' k _ of) h g l = lt-ltb at n (omega (arith, l))
+  over_below cs gs at n e.CountAll h g l = lt-ltb (length gs + length at) n (omega (arith, l))
+  over_below cs gs at n (e.Aggregate' k _ of) h g l = lt-ltb (length gs + length at) n (omega (arith, l))
   over_below cs gs at n (e.Arith' k _ left _ right) h g l =
       let q = or_parts (findings_in cs gs left).ungrouped (findings_in cs gs right).ungrouped h in
-      let len = length-append (aggregates_of cs left) (aggregates_of cs right) in
-      below-Arith n k (over_in cs gs at left) (over_in cs gs (at + length (aggregates_of cs left)) right) ∙ both_below (is_below n (over_in cs gs at left)) (is_below n (over_in cs gs (at + length (aggregates_of cs left)) right))
-      (over_below_in cs gs at n left q.0 g (omega (arith, l, len))) (over_below_in cs gs (at + length (aggregates_of cs left)) n right q.1 g (omega (arith, l, len)))
+      let len = length-append (aggregates_of cs left) (aggregates_of cs right) in let front = length-append at (aggregates_of cs left) in
+      below-Arith n k (over_in cs gs at left) (over_in cs gs (at ++ aggregates_of cs left) right) ∙ both_below (is_below n (over_in cs gs at left)) (is_below n (over_in cs gs (at ++ aggregates_of cs left) right))
+      (over_below_in cs gs at n left q.0 g (omega (arith, l, len, front))) (over_below_in cs gs (at ++ aggregates_of cs left) n right q.1 g (omega (arith, l, len, front)))
   over_below cs gs at n (e.Compare' k _ left _ right) h g l =
       let q = or_parts (findings_in cs gs left).ungrouped (findings_in cs gs right).ungrouped h in
-      let len = length-append (aggregates_of cs left) (aggregates_of cs right) in
-      below-Compare n k (over_in cs gs at left) (over_in cs gs (at + length (aggregates_of cs left)) right) ∙ both_below (is_below n (over_in cs gs at left)) (is_below n (over_in cs gs (at + length (aggregates_of cs left)) right))
-      (over_below_in cs gs at n left q.0 g (omega (arith, l, len))) (over_below_in cs gs (at + length (aggregates_of cs left)) n right q.1 g (omega (arith, l, len)))
+      let len = length-append (aggregates_of cs left) (aggregates_of cs right) in let front = length-append at (aggregates_of cs left) in
+      below-Compare n k (over_in cs gs at left) (over_in cs gs (at ++ aggregates_of cs left) right) ∙ both_below (is_below n (over_in cs gs at left)) (is_below n (over_in cs gs (at ++ aggregates_of cs left) right))
+      (over_below_in cs gs at n left q.0 g (omega (arith, l, len, front))) (over_below_in cs gs (at ++ aggregates_of cs left) n right q.1 g (omega (arith, l, len, front)))
   over_below cs gs at n (e.And' _ left _ right) h g l =
       let q = or_parts (findings_in cs gs left).ungrouped (findings_in cs gs right).ungrouped h in
-      let len = length-append (aggregates_of cs left) (aggregates_of cs right) in
-      below-And n (over_in cs gs at left) (over_in cs gs (at + length (aggregates_of cs left)) right) ∙ both_below (is_below n (over_in cs gs at left)) (is_below n (over_in cs gs (at + length (aggregates_of cs left)) right))
-      (over_below_in cs gs at n left q.0 g (omega (arith, l, len))) (over_below_in cs gs (at + length (aggregates_of cs left)) n right q.1 g (omega (arith, l, len)))
+      let len = length-append (aggregates_of cs left) (aggregates_of cs right) in let front = length-append at (aggregates_of cs left) in
+      below-And n (over_in cs gs at left) (over_in cs gs (at ++ aggregates_of cs left) right) ∙ both_below (is_below n (over_in cs gs at left)) (is_below n (over_in cs gs (at ++ aggregates_of cs left) right))
+      (over_below_in cs gs at n left q.0 g (omega (arith, l, len, front))) (over_below_in cs gs (at ++ aggregates_of cs left) n right q.1 g (omega (arith, l, len, front)))
   over_below cs gs at n (e.Or' _ left _ right) h g l =
       let q = or_parts (findings_in cs gs left).ungrouped (findings_in cs gs right).ungrouped h in
-      let len = length-append (aggregates_of cs left) (aggregates_of cs right) in
-      below-Or n (over_in cs gs at left) (over_in cs gs (at + length (aggregates_of cs left)) right) ∙ both_below (is_below n (over_in cs gs at left)) (is_below n (over_in cs gs (at + length (aggregates_of cs left)) right))
-      (over_below_in cs gs at n left q.0 g (omega (arith, l, len))) (over_below_in cs gs (at + length (aggregates_of cs left)) n right q.1 g (omega (arith, l, len)))
+      let len = length-append (aggregates_of cs left) (aggregates_of cs right) in let front = length-append at (aggregates_of cs left) in
+      below-Or n (over_in cs gs at left) (over_in cs gs (at ++ aggregates_of cs left) right) ∙ both_below (is_below n (over_in cs gs at left)) (is_below n (over_in cs gs (at ++ aggregates_of cs left) right))
+      (over_below_in cs gs at n left q.0 g (omega (arith, l, len, front))) (over_below_in cs gs (at ++ aggregates_of cs left) n right q.1 g (omega (arith, l, len, front)))
   over_below cs gs at n (e.Not' _ of) h g l = below-Not n (over_in cs gs at of) ∙ over_below_in cs gs at n of h g l
   over_below cs gs at n (e.IsNull' _ of) h g l = below-IsNull n (over_in cs gs at of) ∙ over_below_in cs gs at n of h g l
 
-  pub over_below_in : {m : _} (cs : List SourceColumn) (gs : List ℕ) (at n : ℕ) (of : Row_of-SqlExpr m) → (findings_in cs gs of).ungrouped ≡ false → length gs ≤ n → at + length (aggregates_of cs of) ≤ n
+  pub over_below_in : {m : _} (cs : List SourceColumn) (gs : List ℕ) (at : List Aggregate) (n : ℕ) (of : Row_of-SqlExpr m) → (findings_in cs gs of).ungrouped ≡ false → length gs ≤ n → length gs + (length at + length (aggregates_of cs of)) ≤ n
       → is_below n (over_in cs gs at of) ≡ true
   over_below_in cs gs at n end_of-SqlExpr h g l = refl
   over_below_in cs gs at n (more_of-SqlExpr x rest) h g l = over_below cs gs at n x h g l

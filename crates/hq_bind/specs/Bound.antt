@@ -1,6 +1,6 @@
 -- What a statement is bound to.
 --     placed cs e                     an expression over the columns of the sources
---     over_groups cs groups at e      an expression over the groups' columns and then the aggregates, of which `at` is the next
+--     over_groups cs groups before e  an expression over the groups' columns and then the aggregates, of which these stand before
 --     bound_query defs s              a SELECT, as the fields of a query
 --     bound_of defs s                 a statement
 use Rattle.std.specs.Prelude.{ℕ, ◌+◌, ◌-◌, ◌==◌, Bool, true, false, List, [], ◌∷◌, ◌++◌, length, map, flat_map, fold, Option, Some, None, position, unwrap_or, if◌then◌else◌}
@@ -36,7 +36,7 @@ use Rattle.hq_algebra.specs.declared.aggregate.Aggregate.TheVariants as agg
 use Rattle.hq_algebra.specs.declared.op.SortKey.{SortKey}
 use Rattle.hq_algebra.specs.declared.query.Query.{Query}
 use Rattle.hq_bind.specs.Scope.{Name, Defs, table_named, place_of}
-use Rattle.hq_bind.specs.Targets.{named, places, value_of, row_of}
+use Rattle.hq_bind.specs.Targets.{places, value_of, row_of}
 use Rattle.hq_bind.specs.Reading.{read_columns, read_items, read_groups, item_exprs, item_findings, is_grouped}
 use Rattle.hq_bind.specs.Faults.{has_name}
 use Rattle.hq_bind.specs.declared.scope.SourceColumn.{SourceColumn}
@@ -68,6 +68,9 @@ abbrev mutual
   placed_in cs end_of-SqlExpr = expr.Literal value.Null
   placed_in cs (more_of-SqlExpr x rest) = placed cs x
 
+abbrev pub placed_item : List SourceColumn → Item → Expr
+placed_item cs i = placed cs i.expr
+
 abbrev pub aggregate_of : AggregateKind → Expr → Aggregate
 aggregate_of ak.Count x = agg.Count x
 aggregate_of ak.Sum x = agg.Sum x
@@ -92,32 +95,42 @@ abbrev mutual
   aggregates_of cs end_of-SqlExpr = []
   aggregates_of cs (more_of-SqlExpr x rest) = aggregates_in cs x
 
+abbrev pub group_place : List ℕ → ℕ → Option ℕ
+group_place groups column = position (λ p. p == column) groups
+
 -- the place of a reference's column among the groups'
 abbrev pub group_column : List SourceColumn → List ℕ → ColumnRef → ℕ
-group_column cs groups r = unwrap_or (position (λ p. p == placed_column cs r) groups) 0
+group_column cs groups r = unwrap_or (group_place groups (placed_column cs r)) 0
 
--- over the groups' columns and then the aggregates, of which `at` is the place of the next
+-- the place of the next aggregate behind these, which stand behind the groups' columns
+abbrev pub next_place : List ℕ → List Aggregate → ℕ
+next_place groups before = length groups + length before
+
+abbrev pub aggregate_column : List ℕ → List Aggregate → Expr
+aggregate_column groups before = expr.Column (next_place groups before)
+
+-- over the groups' columns and then the aggregates, of which these stand before its own
 abbrev mutual
-  pub over_groups : List SourceColumn → List ℕ → ℕ → SqlExpr → Expr
-  over_groups cs groups at (e.Literal v) = expr.Literal (value_of v)
-  over_groups cs groups at (e.Column r) = expr.Column (group_column cs groups r)
-  over_groups cs groups at e.CountAll = expr.Column at
-  over_groups cs groups at (e.Aggregate' k _ of) = expr.Column at
-  over_groups cs groups at (e.Arith' k _ left _ right) = expr.Arith k (over_in cs groups at left) (over_in cs groups (at + length (aggregates_of cs left)) right)
-  over_groups cs groups at (e.Compare' k _ left _ right) = expr.Compare k (over_in cs groups at left) (over_in cs groups (at + length (aggregates_of cs left)) right)
-  over_groups cs groups at (e.And' _ left _ right) = expr.And (over_in cs groups at left) (over_in cs groups (at + length (aggregates_of cs left)) right)
-  over_groups cs groups at (e.Or' _ left _ right) = expr.Or (over_in cs groups at left) (over_in cs groups (at + length (aggregates_of cs left)) right)
-  over_groups cs groups at (e.Not' _ of) = expr.Not (over_in cs groups at of)
-  over_groups cs groups at (e.IsNull' _ of) = expr.IsNull (over_in cs groups at of)
+  pub over_groups : List SourceColumn → List ℕ → List Aggregate → SqlExpr → Expr
+  over_groups cs groups before (e.Literal v) = expr.Literal (value_of v)
+  over_groups cs groups before (e.Column r) = expr.Column (group_column cs groups r)
+  over_groups cs groups before e.CountAll = expr.Column (next_place groups before)
+  over_groups cs groups before (e.Aggregate' k _ of) = expr.Column (next_place groups before)
+  over_groups cs groups before (e.Arith' k _ left _ right) = expr.Arith k (over_in cs groups before left) (over_in cs groups (before ++ aggregates_of cs left) right)
+  over_groups cs groups before (e.Compare' k _ left _ right) = expr.Compare k (over_in cs groups before left) (over_in cs groups (before ++ aggregates_of cs left) right)
+  over_groups cs groups before (e.And' _ left _ right) = expr.And (over_in cs groups before left) (over_in cs groups (before ++ aggregates_of cs left) right)
+  over_groups cs groups before (e.Or' _ left _ right) = expr.Or (over_in cs groups before left) (over_in cs groups (before ++ aggregates_of cs left) right)
+  over_groups cs groups before (e.Not' _ of) = expr.Not (over_in cs groups before of)
+  over_groups cs groups before (e.IsNull' _ of) = expr.IsNull (over_in cs groups before of)
 
-  pub over_in : {m : _} → List SourceColumn → List ℕ → ℕ → Row_of-SqlExpr m → Expr
-  over_in cs groups at end_of-SqlExpr = expr.Literal value.Null
-  over_in cs groups at (more_of-SqlExpr x rest) = over_groups cs groups at x
+  pub over_in : {m : _} → List SourceColumn → List ℕ → List Aggregate → Row_of-SqlExpr m → Expr
+  over_in cs groups before end_of-SqlExpr = expr.Literal value.Null
+  over_in cs groups before (more_of-SqlExpr x rest) = over_groups cs groups before x
 
 -- expressions one after another, each behind the aggregates of those before it
-abbrev pub all_over : List SourceColumn → List ℕ → ℕ → List SqlExpr → List Expr
-all_over cs groups at [] = []
-all_over cs groups at (x ∷ xs) = over_groups cs groups at x ∷ all_over cs groups (at + length (aggregates_in cs x)) xs
+abbrev pub all_over : List SourceColumn → List ℕ → List Aggregate → List SqlExpr → List Expr
+all_over cs groups before [] = []
+all_over cs groups before (x ∷ xs) = over_groups cs groups before x ∷ all_over cs groups (before ++ aggregates_in cs x) xs
 
 abbrev pub all_aggregates : List SourceColumn → List SqlExpr → List Aggregate
 all_aggregates cs es = flat_map (aggregates_in cs) es
@@ -154,17 +167,23 @@ parts_of q = record {
 abbrev pub number_of : Defs → SourceName → List ℕ
 number_of defs s = option_map_or (λ (d : ℕ × Definition). d.0 ∷ []) (table_named defs s.table) []
 
+abbrev pub name_place : List Item → Name → Option ℕ
+name_place items name = position (has_name name) items
+
 -- the output column that a key names, from 0
 abbrev pub key_column : List Item → OrderBy → ℕ
-key_column items (by.Column name) = unwrap_or (position (has_name name) items) 0
+key_column items (by.Column name) = unwrap_or (name_place items name) 0
 key_column items (by.Place place) = place - 1
 
 abbrev pub sort_key : List Item → OrderKey → SortKey
 sort_key items key = record { column = key_column items key.by; descending = key.descending }
 
+abbrev pub is_ordered : List SortKey → ℕ → Bool
+is_ordered keys column = list_any (λ (k : SortKey). k.column == column) keys
+
 -- a key behind the others, unless its column is there
 abbrev pub with_key : List SortKey → SortKey → List SortKey
-with_key keys key = if list_any (λ (k : SortKey). k.column == key.column) keys then keys else keys ++ key ∷ []
+with_key keys key = if is_ordered keys key.column then keys else keys ++ key ∷ []
 
 -- each column once, where it is first named
 abbrev pub order_of : List Item → List OrderKey → List SortKey
@@ -173,32 +192,36 @@ order_of items keys = fold (λ kept key. with_key kept (sort_key items key)) [] 
 -- of a query that is grouped
 abbrev pub grouped_outputs : List SourceColumn → List ℕ → List Item → List SqlExpr → Outputs
 grouped_outputs cs groups items having = record {
-  items = all_over cs groups (length groups) (item_exprs items);
+  items = all_over cs groups [] (item_exprs items);
   aggregates = all_aggregates cs (item_exprs items) ++ all_aggregates cs having;
-  having = all_over cs groups (length groups + length (all_aggregates cs (item_exprs items))) having;
+  having = all_over cs groups (all_aggregates cs (item_exprs items)) having;
 }
 
 -- of a query that is not grouped, which has no aggregates and no HAVING
 abbrev pub plain_outputs : List SourceColumn → List Item → Outputs
-plain_outputs cs items = record { items = map (placed cs) (item_exprs items); aggregates = []; having = [] }
+plain_outputs cs items = record { items = map (placed_item cs) items; aggregates = []; having = [] }
 
 -- the output columns, the aggregates, and HAVING
 abbrev pub outputs : List SourceColumn → List ℕ → Bool → List Item → List SqlExpr → Outputs
 outputs cs groups grouped items having = if grouped then grouped_outputs cs groups items having else plain_outputs cs items
 
-abbrev pub bound_over : Defs → SelectStatement → List SourceColumn → List Item → List ℕ → Bool → QueryParts
-bound_over defs s cs items groups grouped = record {
-  sources = flat_map (number_of defs) s.sources;
-  conds = map (placed cs) s.conds;
+abbrev pub query_parts : SelectStatement → List ℕ → List Expr → Bool → List ℕ → Outputs → List SortKey → QueryParts
+query_parts s sources conds grouped groups outputs order = record {
+  sources = sources;
+  conds = conds;
   grouped = grouped;
   groups = groups;
-  aggregates = (outputs cs groups grouped items (given s.having)).aggregates;
-  having = (outputs cs groups grouped items (given s.having)).having;
-  items = (outputs cs groups grouped items (given s.having)).items;
+  aggregates = outputs.aggregates;
+  having = outputs.having;
+  items = outputs.items;
   distinct = s.distinct;
-  order = order_of items s.keys;
+  order = order;
   limit = s.limit;
 }
+
+abbrev pub bound_over : Defs → SelectStatement → List SourceColumn → List Item → List ℕ → Bool → QueryParts
+bound_over defs s cs items groups grouped =
+    query_parts s (flat_map (number_of defs) s.sources) (map (placed cs) s.conds) grouped groups (outputs cs groups grouped items (given s.having)) (order_of items s.keys)
 
 abbrev pub bound_query : Defs → SelectStatement → QueryParts
 bound_query defs s =
@@ -229,8 +252,11 @@ pub data BoundParts : Type 0 where
   -- it is not bound
   unbound : BoundParts
 
+abbrev pub values_bound : ℕ → List Column → List Name → List (List Literal) → BoundParts
+values_bound table columns names tuples = values table (map (row_of (places columns names)) tuples)
+
 abbrev pub bound_tuples : ℕ × Definition → List Name → List (List Literal) → BoundParts
-bound_tuples table names tuples = values table.0 (map (row_of (places table.1.columns names)) tuples)
+bound_tuples table names tuples = values_bound table.0 table.1.columns names tuples
 
 abbrev pub bound_rows : Defs → ℕ × Definition → List Name → SelectStatement → BoundParts
 bound_rows defs table names s = insert_query table.0 (places table.1.columns names) (bound_query defs s)

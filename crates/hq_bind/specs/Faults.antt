@@ -57,9 +57,13 @@ first_of f =
 abbrev pub is_no_table : Defs → SourceName → Bool
 is_no_table defs s = is_none (table_named defs s.table)
 
+abbrev pub is_called : Name → List SourceName → Bool
+is_called name sources = list_any (λ (s : SourceName). same_names name (called s)) sources
+
 -- two sources are called the same
 abbrev pub repeats_source : List SourceName → Bool
-repeats_source sources = not (are_distinct same_names (map called sources))
+repeats_source [] = false
+repeats_source (s ∷ sources) = is_called (called s) sources || repeats_source sources
 
 -- the item makes an output column of this name: its alias, or the column of a bare reference
 abbrev pub is_bare : Name → SqlExpr → Bool
@@ -132,6 +136,14 @@ doubts s cs items of_items of_conds of_having =
     list_any has_ambiguous of_items || (list_any has_ambiguous of_conds || (list_any has_ambiguous of_having
     || (list_any (fits_two cs) s.groups || list_any (is_two_keys items) s.keys)))
 
+-- an item of no kind, or a condition that is no Bool
+abbrev pub mismatches : List Findings → List Findings → List Findings → Bool
+mismatches of_items of_conds of_having = list_any is_wrong of_items || (list_any is_no_condition of_conds || list_any is_no_condition of_having)
+
+-- a reference outside of an aggregate to a column that is not grouped
+abbrev pub leaves_groups : List Findings → List Findings → Bool
+leaves_groups of_items of_having = list_any has_ungrouped of_items || list_any has_ungrouped of_having
+
 -- over its columns and its select list, by what is found in that, in the conditions and in HAVING
 abbrev pub faults_over : Defs → SelectStatement → List SourceColumn → List Item → List Findings → List Findings → List Findings → Faults
 faults_over defs s cs items of_items of_conds of_having = record {
@@ -141,8 +153,8 @@ faults_over defs s cs items of_items of_conds of_having = record {
   duplicate_column = false;
   undefined_column = lacks s cs items of_items of_conds of_having;
   ambiguous_column = doubts s cs items of_items of_conds of_having;
-  type_mismatch = list_any is_wrong of_items || (list_any is_no_condition of_conds || list_any is_no_condition of_having);
-  not_grouped = is_grouped of_items s && (list_any has_ungrouped of_items || list_any has_ungrouped of_having);
+  type_mismatch = mismatches of_items of_conds of_having;
+  not_grouped = is_grouped of_items s && leaves_groups of_items of_having;
 }
 
 abbrev pub query_faults : Defs → SelectStatement → Faults

@@ -3,5 +3,8 @@ pub mod Findings
 pub mod Reading
 pub mod Targets
 pub mod Faults
+pub mod Read
 pub mod Bound
+pub mod Ready
 pub mod Tables
+pub mod Planned

@@ -41,10 +41,13 @@ read_items cs s = items_read (written_out cs s) s
 abbrev pub item_exprs : List Item → List SqlExpr
 item_exprs items = map (λ (i : Item). i.expr) items
 
+abbrev pub is_there : List ℕ → ℕ → Bool
+is_there places place = list_any (λ p. p == place) places
+
 -- a place behind the others, unless it is there
 abbrev pub with_place : List ℕ → Option ℕ → List ℕ
 with_place places None = places
-with_place places (Some place) = if list_any (λ p. p == place) places then places else places ++ place ∷ []
+with_place places (Some place) = if is_there places place then places else places ++ place ∷ []
 
 -- the places of columns, each once
 abbrev pub group_places : List SourceColumn → List ColumnRef → List ℕ

@@ -27,8 +27,11 @@ table_named (d ∷ defs) name = if same_names d.1.name name then Some d else tab
 abbrev pub called : SourceName → Name
 called s = option_map_or (λ (name : Name). name) s.alias s.table
 
+abbrev pub column_of : Name → Column → SourceColumn
+column_of source c = record { source = source; name = c.name; kind = c.kind }
+
 abbrev pub columns_of : Name → List Column → List SourceColumn
-columns_of source columns = map (λ (c : Column). record { source = source; name = c.name; kind = c.kind }) columns
+columns_of source columns = map (column_of source) columns
 
 abbrev pub source_columns : Defs → SourceName → List SourceColumn
 source_columns defs s = option_map_or (λ (d : ℕ × Definition). columns_of (called s) d.1.columns) (table_named defs s.table) []

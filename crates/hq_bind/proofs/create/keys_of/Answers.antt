@@ -1,0 +1,4 @@
+use Rattle.hq_bind.proofs.create.keys_of.Goals as goal
+
+pub returns : goal.returns
+returns c = rw (c.as_slice.ensures, c.as_slice-2.ensures) at c.key_places.ensures
