@@ -1,8 +1,12 @@
 //! An exchange into lists.
-ghost use Rattle.std.specs.Prelude.{◌≡◌, ◌<◌, ◌≤◌, length, map, All, IfOk};
+ghost use Rattle.std.specs.Prelude.{◌≡◌, ◌+◌, ◌-◌, ◌*◌, ◌^◌, ◌<◌, ◌≤◌, true, length, map, All, IfOk, OnOk};
+ghost use Rattle.hq_value.specs.Causes.{RoseBy};
+ghost use Rattle.hq_link.specs.Link.{StaysSound, IsLowered};
 ghost use Rattle.hq_pump.specs.Seen.{seen};
 ghost use Rattle.hq_pump.specs.Safe.{AreAlone, AreEarlier, Grows, IsOwn, WhereKnown};
-ghost use Rattle.hq_exchange.specs.Ends.{HasCause};
+ghost use Rattle.hq_pump.specs.Promise.{IsRoughAtMost, IsOkOrNoMemory};
+ghost use Rattle.hq_pump.specs.Pumping.{begun, pieces_of};
+ghost use Rattle.hq_exchange.specs.Ends.{HasCause, HasExchanged, nothing};
 
 use crate::lists::Lists;
 use hq_link::Link;
@@ -12,7 +16,8 @@ use std::alloc::Global;
 
 /// Sends the streams, each from its node, to the node `to` over the link, and gives those that came at its other end.
 /// Where the link tells what it carries, these are the streams that were sent, in the same order, whatever the link
-/// lost, repeated and reordered.
+/// lost, repeated and reordered. It gives up where the link counted 32 troubles since the last new acknowledgement,
+/// or the start.
 pub fn exchange<L: Link>(
     alloc: Global,
     link: &mut L,
@@ -29,6 +34,19 @@ pub fn exchange<L: Link>(
     ensures whole { IfOk result (λ got. WhereKnown (L.state link.new).may
         (seen got.items ≡ seen streams.items)) }
     ensures own { Grows (L.state link.old).may (L.state link.new).may (IsOwn query motion) }
+    ensures runs { HasExchanged
+        (begun query motion to (seen streams.items) (L.state link.old) nothing)
+        (L.state link.new) (seen streams.items) result }
+    ensures given { OnOk result (WhereKnown (L.state link.new).may
+        (RoseBy (pieces_of (seen streams.items)) (L.state link.old).given (L.state link.new).given)) }
+    ensures sound { (L.state link.old).sound ≡ true → StaysSound (L.state link.old) (L.state link.new) }
+    ensures few { IsRoughAtMost 15 (L.state link.old) → (L.state link.new).troubles
+        ≤ (L.state link.old).troubles + 32 * pieces_of (seen streams.items) + 31 }
+    ensures rough { IsLowered (L.state link.old).rough (L.state link.new).rough }
+    ensures steady { IsRoughAtMost 0 (L.state link.old)
+        → (L.state link.new).troubles ≡ (L.state link.old).troubles }
+    ensures complete { IsRoughAtMost 15 (L.state link.old) → (L.state link.new).troubles < 2 ^ 64 - 1
+        → IsOkOrNoMemory result }
     ensures cause { HasCause (L.state link.old) (L.state link.new) result }
 {
     let Ok(senders) = senders(alloc, &streams) else {

@@ -1,15 +1,14 @@
 -- What an exchange leaves of its link.
-use Rattle.std.proofs.Common.{◌≡◌, ◌⊎◌, ℕ, zero, suc, ◌+◌, ◌^◌, ◌<◌, ◌≤◌, min, Bool, true, false, cond, List, [], ◌∷◌, ◌++◌, length, take, map, Option, Some, None, Result, Ok, Err, refl, sym, ap, subst, ◌∙◌, arith, inl, inr}
-use Rattle.std.specs.Prelude.{All, Vec, slice_get, slice_set}
+use Rattle.std.proofs.Common.{◌≡◌, ℕ, ◌^◌, ◌<◌, ◌≤◌, Bool, true, false, cond, List, [], length, map, Option, Some, None, Result, Ok, Err, refl, sym, ap, subst, ◌∙◌, arith, inl, inr}
+use Rattle.std.specs.Prelude.{All, Vec}
 use Rattle.hq_value.specs.Causes.{Rose}
-use Rattle.hq_stream.specs.Piece.{Piece, Bytes, End, piece_at}
+use Rattle.hq_stream.specs.Piece.{Bytes, End}
 use Rattle.hq_link.specs.declared.datagram.Packet.{Packet}
 use Rattle.hq_link.specs.declared.datagram.Packet.TheVariants.{Data, Eos, Ack, Probe}
 use Rattle.hq_link.specs.declared.link.LinkFault.{LinkFault}
 use Rattle.hq_link.specs.declared.link.LinkFault.TheVariants as link_fault
-use Rattle.hq_link.specs.declared.route.Route.{Route}
 use Rattle.hq_link.specs.Gram.{gram_bytes, may_bring}
-use Rattle.hq_link.specs.Link.{LinkState, Told, IsIn, IsSent, IsNext}
+use Rattle.hq_link.specs.Link.{LinkState, Told}
 use Rattle.hq_link.specs.Streams.{gram, ack_of}
 use Rattle.hq_link.proofs.GramLaws.{gram_again}
 use Rattle.hq_send.specs.Sending.{is_new}
@@ -19,7 +18,7 @@ use Rattle.hq_pump.specs.declared.lane.Lane.{Lane}
 use Rattle.hq_pump.specs.Exchange.{Exchange, Says, piece, probe, Step, sends, answers_it, is_told, hears, misses, rests, fails, hands_over, gives_up, Run, still, more, fault_of}
 use Rattle.hq_pump.specs.Safe.{IsRouted, IsSafe, IsWithin, AreEarlier, AreAlone, IsOwn, Grows}
 use Rattle.hq_pump.specs.Seen.{seen}
-use Rattle.hq_pump.specs.Pumping.{at, new_lane, HasRun, HasRunOr, HasItsCause, IsOver, IsLost}
+use Rattle.hq_pump.specs.Pumping.{at, new_lane, HasRunOr, HasItsCause, IsOver, IsLost}
 use Rattle.hq_pump.proofs.Safety.{fits, brings, grows_same, grows_less, grows_sent, safe_run}
 use Rattle.hq_pump.proofs.Start.{new_safe}
 

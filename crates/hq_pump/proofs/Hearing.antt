@@ -1,26 +1,22 @@
 -- What is done once a datagram came.
-use Rattle.std.proofs.Common.{◌≡◌, ◌⊎◌, ℕ, zero, suc, ◌+◌, ◌-◌, ◌*◌, ◌^◌, ◌<◌, ◌≤◌, min, Bool, true, false, ◌&&◌, ◌||◌, cond, nat_eq, List, [], ◌∷◌, ◌++◌, length, take, map, Option, Some, None, Result, Ok, Err, refl, sym, ap, subst, ◌∙◌, arith, inl, inr}
-use Rattle.std.specs.Prelude.{slice_get, slice_set, position, OnOk}
-use Rattle.std.proofs.lemmas.Bool.{or_parts}
+use Rattle.std.proofs.Common.{◌≡◌, ℕ, ◌-◌, ◌^◌, ◌<◌, ◌≤◌, Bool, true, false, ◌&&◌, ◌||◌, cond, nat_eq, List, [], take, Option, Some, None, Result, refl, sym, ap, subst, ◌∙◌, arith}
+use Rattle.std.specs.Prelude.{slice_set}
 use Rattle.hq_link.specs.declared.datagram.Datagram.{Datagram}
 use Rattle.hq_link.specs.declared.datagram.Packet.{Packet}
 use Rattle.hq_link.specs.declared.datagram.Packet.TheVariants.{Data, Eos, Ack, Probe}
-use Rattle.hq_link.specs.declared.link.Got.TheVariants.{Bytes, Quiet}
 use Rattle.hq_link.specs.declared.link.LinkFault.{LinkFault}
 use Rattle.hq_link.specs.declared.link.LinkFault.TheVariants as link_fault
 use Rattle.hq_link.specs.declared.route.Route.{Route}
 use Rattle.hq_link.specs.Gram.{gram_bytes, code}
 use Rattle.hq_link.specs.Reading.{gram_at}
-use Rattle.hq_link.specs.Link.{LinkState, IsSent, IsNext, is_ack, one_if, other_count}
+use Rattle.hq_link.specs.Link.{LinkState, IsSent, is_ack, one_if, other_count}
 use Rattle.hq_link.specs.Streams.{ack_of, ack_in, piece_in, piece_of, piece_for, probe_for, asks, is_of, is_probe_of}
 use Rattle.hq_link.proofs.Numbers.{IsBytes}
 use Rattle.hq_link.proofs.GramLaws.{gram_takes}
-use Rattle.hq_stream.specs.TwoEnds.{Sent}
-use Rattle.hq_recv.specs.Taking.{Taker, took, after, drained, with_more}
-use Rattle.hq_recv.specs.declared.took.Took.{Took}
+use Rattle.hq_recv.specs.Taking.{Taker, took, drained, with_more}
 use Rattle.hq_pump.specs.declared.lane.Lane.{Lane}
-use Rattle.hq_pump.specs.Exchange.{Exchange, IsReady, Answers, Hears, Misses, HandsOver, Step, answers_it, hears, misses, hands_over, gives_up, Run, still, more, fault_of, owes, answers, received}
-use Rattle.hq_pump.specs.Pumping.{StandsAt, StandsOwing, Arrives, heard, link_left}
+use Rattle.hq_pump.specs.Exchange.{Exchange, IsItsOwn, answers_it, hears, misses, hands_over, gives_up, Run, still, fault_of, owes, answers, received}
+use Rattle.hq_pump.specs.Pumping.{StandsOwing, Arrives, heard}
 use Rattle.hq_pump.proofs.Steps.{joined, one_step, get_set, set_same, set_set}
 
 -- the answer that was owed, or none
@@ -82,6 +78,7 @@ heard_run s i count into bytes lane left link new before taken owing fault arriv
       link = link;
       next = arrives.next;
       at = arrives.lane_is;
+      own = subst (λ b. IsItsOwn lane (gram_at b)) (sym arrives.bytes_are) arrives.own;
       no_ack = ap (ack_in lane.sender.route) arrives.bytes_are ∙ no_ack;
       is = refl;
     })) in

@@ -9,3 +9,12 @@ pub mod Streams
 pub mod Start
 pub mod Whole
 pub mod Ends
+pub mod Given
+pub mod Promises
+pub mod Flying
+pub mod Live
+pub mod Complete
+pub mod Kept
+pub mod Calm
+pub mod Steady
+pub mod Few

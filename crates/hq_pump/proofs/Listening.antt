@@ -1,8 +1,8 @@
 -- What is done once the link was asked.
-use Rattle.std.proofs.Common.{◌≡◌, ℕ, Bool, true, false, cond, List, [], ◌∷◌, take, map, Option, Some, None, Result, Ok, Err, refl, sym, ap, subst, ◌∙◌}
+use Rattle.std.proofs.Common.{◌≡◌, ℕ, Bool, cond, List, take, map, Option, Some, None, Ok, Err, refl, sym, subst}
 use Rattle.std.specs.Prelude.{slice_get, slice_set}
 use Rattle.hq_value.specs.declared.fault.Failed.{Failed}
-use Rattle.hq_link.specs.declared.link.Got.TheVariants.{Bytes, Quiet}
+use Rattle.hq_link.specs.declared.link.Got.TheVariants.{Quiet}
 use Rattle.hq_link.specs.declared.link.LinkFault.{LinkFault}
 use Rattle.hq_link.specs.declared.link.LinkFault.TheVariants as link_fault
 use Rattle.hq_link.specs.Link.{LinkState, IsNext}
@@ -10,7 +10,7 @@ use Rattle.hq_link.specs.Reading.{gram_at}
 use Rattle.hq_link.specs.Streams.{ack_in}
 use Rattle.hq_send.specs.Sending.{is_new}
 use Rattle.hq_pump.specs.declared.lane.Lane.{Lane}
-use Rattle.hq_pump.specs.Exchange.{Exchange, IsReady, IsNobodys, IsTold, Misses, Rests, Fails, Step, is_told, misses, rests, fails, Run, still, more, acknowledged, asked_again}
+use Rattle.hq_pump.specs.Exchange.{Exchange, IsItsOwn, IsReady, IsNobodys, is_told, misses, rests, fails, Run, acknowledged, asked_again}
 use Rattle.hq_pump.specs.Pumping.{at, Arrives, Comes, heard, place_of}
 use Rattle.hq_pump.proofs.Steps.{joined, one_step}
 use Rattle.hq_pump.proofs.Turning.{nobodys}
@@ -49,14 +49,15 @@ told_run s lanes base now count into link bytes taken place lane left n new come
     })))
 
 -- a piece or a question came
-pub heard_at : (s : Exchange) (lanes : List Lane) (base count : ℕ) (into : List ℕ) (link new : LinkState) (bytes : List ℕ) (before taken : ℕ → List ℕ) (place : ℕ) (lane left : Lane) (fault : Option LinkFault) → Comes s lanes base count into link bytes before → slice_get lanes place ≡ Some lane → ((t : Exchange) (i n : ℕ) (raw : List ℕ) → Arrives t i lane n raw link bytes before → Run t (heard t i left new taken fault)) → Run s (at (slice_set lanes place left) new base taken fault)
-heard_at s lanes base count into link new bytes before taken place lane left fault comes there runs =
+pub heard_at : (s : Exchange) (lanes : List Lane) (base count : ℕ) (into : List ℕ) (link new : LinkState) (bytes : List ℕ) (before taken : ℕ → List ℕ) (place : ℕ) (lane left : Lane) (fault : Option LinkFault) → Comes s lanes base count into link bytes before → slice_get lanes place ≡ Some lane → IsItsOwn lane (gram_at bytes) → ((t : Exchange) (i n : ℕ) (raw : List ℕ) → Arrives t i lane n raw link bytes before → Run t (heard t i left new taken fault)) → Run s (at (slice_set lanes place left) new base taken fault)
+heard_at s lanes base count into link new bytes before taken place lane left fault comes there own runs =
     subst (Run s) (λ k. record { lanes = slice_set (comes.lanes_are k) place left; link = new; base = comes.base_is k; taken = taken; owed = None; fault = fault })
     (runs s place count into (record {
       ready = comes.ready;
       lane_is = subst (λ (xs : List Lane). slice_get xs place ≡ Some lane) (sym comes.lanes_are) there;
       next = comes.next;
       bytes_are = comes.bytes_are;
+      own = own;
       taken_is = comes.taken_is;
     }))
 

@@ -1,5 +1,5 @@
 -- How an exchange is over.
-use Rattle.std.proofs.Common.{◌≡◌, ℕ, zero, suc, ◌+◌, ◌<◌, ◌≤◌, Bool, true, false, List, [], ◌∷◌, length, Option, Some, None, Result, Ok, Err, refl, sym, ap, subst, ◌∙◌, arith}
+use Rattle.std.proofs.Common.{◌≡◌, ℕ, zero, suc, ◌<◌, Bool, true, false, ◌&&◌, List, [], ◌∷◌, length, map, Some, None, Result, Ok, Err, refl, sym, ap, subst, ◌∙◌, arith}
 use Rattle.std.specs.Prelude.{slice_get, IfOk, IfErr}
 use Rattle.hq_link.specs.declared.link.LinkFault.{LinkFault}
 use Rattle.hq_link.specs.declared.link.LinkFault.TheVariants as fault
@@ -7,10 +7,11 @@ use Rattle.hq_link.specs.Link.{LinkState}
 use Rattle.hq_pump.specs.declared.end.ExchangeEnd.{ExchangeEnd}
 use Rattle.hq_pump.specs.declared.end.ExchangeEnd.TheVariants as end_variant
 use Rattle.hq_pump.specs.declared.lane.Lane.{Lane}
-use Rattle.hq_pump.specs.Exchange.{Exchange, IsReady, Run}
-use Rattle.hq_pump.specs.Pumping.{at, AreIdle, HasRun, IsOver, IsEnd, all_done, first_open}
+use Rattle.hq_pump.specs.Exchange.{Exchange, IsReady, Run, is_done, is_sent}
+use Rattle.hq_pump.specs.Pumping.{at, AreIdle, AreOpen, HasRun, IsOver, IsEnd, IsLost, all_done, first_open, new_lane}
 use Rattle.hq_pump.proofs.Steps.{joined}
-use Rattle.hq_pump.proofs.Turning.{one_open}
+use Rattle.hq_pump.proofs.Turning.{one_open, done_at}
+use Rattle.hq_pump.proofs.Start.{get_mapped}
 
 there_below : {A : Type 0} (xs : List A) (i : ℕ) (x : A) → slice_get xs i ≡ Some x → i < length xs
 there_below [] i x e = absurd cc
@@ -48,8 +49,26 @@ run_end start lanes link base taken f e run ends = record { over = at lanes link
 pub run_lost : (start : Exchange) (lanes : List Lane) (link : LinkState) (base : ℕ) (taken : ℕ → List ℕ) (e : ExchangeEnd) → Run start (at lanes link base taken None) → ((f : LinkFault) → IsEnd base (first_open lanes) link.troubles f e) → HasRun start link taken (Err e)
 run_lost start lanes link base taken e run ends = record { over = at lanes link base taken None; run = run; link_is = refl; taken_is = refl; how = over_lost (at lanes link base taken None) e ends }
 
-pub run_done : (start : Exchange) (lanes : List Lane) (link : LinkState) (base : ℕ) (taken : ℕ → List ℕ) → Run start (at lanes link base taken None) → all_done lanes ≡ true → HasRun start link taken (Ok tt)
-run_done start lanes link base taken run done = record { over = at lanes link base taken None; run = run; link_is = refl; taken_is = refl; how = (done, refl, refl) }
+pub run_done : (start : Exchange) (lanes : List Lane) (link : LinkState) (base : ℕ) (taken : ℕ → List ℕ) → Run start (at lanes link base taken None) → all_done lanes ≡ true → (IsLost base link.troubles → lanes ≡ []) → HasRun start link taken (Ok tt)
+run_done start lanes link base taken run done fresh = record { over = at lanes link base taken None; run = run; link_is = refl; taken_is = refl; how = (done, refl, refl, fresh) }
+
+-- streams of which none is done and all are, are none
+pub none_open : (lanes first : List Lane) → AreOpen first → lanes ≡ first → all_done lanes ≡ true → lanes ≡ []
+none_open lanes [] open_ones same done = same
+none_open lanes (x ∷ xs) open_ones same done =
+    let all : is_done x ≡ true = done_at lanes 0 x done (ap (λ (l : List Lane). slice_get l 0) same) in
+    let no : true ≡ false = sym all ∙ open_ones 0 x refl in
+    absurd cc
+
+-- at the start none is done
+pub new_open : (q m t : ℕ) (streams : List (ℕ × List ℕ)) → AreOpen (map (new_lane q m t) streams)
+new_open q m t streams i lane e =
+    let y = get_mapped (new_lane q m t) streams i lane e in
+    subst (λ (l : Lane). is_done l ≡ false) y.2 (never (is_sent (new_lane q m t y.0)))
+  where
+    never : (b : Bool) → (b && false) ≡ false
+    never true = refl
+    never false = refl
 
 -- what ran on from a later point ran from the start
 pub run_on : (start now : Exchange) (link : LinkState) (taken : ℕ → List ℕ) (e : ExchangeEnd) → Run start now → HasRun now link taken (Err e) → HasRun start link taken (Err e)

@@ -1,26 +1,25 @@
 -- An exchange stays safe, step by step.
-use Rattle.std.proofs.Common.{◌≡◌, ◌⊎◌, ℕ, zero, suc, ◌+◌, ◌-◌, ◌*◌, ◌/◌, ◌^◌, ◌<◌, ◌≤◌, min, max, Bool, true, false, ◌&&◌, ◌||◌, cond, ltb, leb, nat_eq, List, [], ◌∷◌, ◌++◌, length, take, drop, map, Option, Some, None, Result, Ok, Err, refl, sym, ap, subst, ◌∙◌, append_assoc, arith, inl, inr}
-use Rattle.std.specs.Prelude.{slice_get, slice_set, slice_range, OnOk}
-use Rattle.std.proofs.lemmas.Bool.{eq-eqb, eqb-true, eqb-false, and_from, and_parts, lt-ltb, le-leb, ltb-true, leb-true}
+use Rattle.std.proofs.Common.{◌≡◌, ◌⊎◌, ℕ, zero, suc, ◌+◌, ◌-◌, ◌*◌, ◌^◌, ◌<◌, ◌≤◌, min, max, Bool, true, false, ◌&&◌, cond, ltb, leb, nat_eq, List, [], ◌∷◌, ◌++◌, length, take, drop, map, Option, Some, None, Result, Ok, Err, refl, sym, ap, subst, ◌∙◌, append_assoc, arith, inl, inr}
+use Rattle.std.specs.Prelude.{slice_get, slice_set}
+use Rattle.std.proofs.lemmas.Bool.{eq-eqb, eqb-true, and_from, lt-ltb, le-leb}
 use Rattle.std.proofs.lemmas.List.{length-take, length-drop}
-use Rattle.hq_stream.specs.Piece.{Piece, Bytes, End, eos, piece_at}
+use Rattle.hq_stream.specs.Piece.{Bytes, End, piece_at}
 use Rattle.hq_stream.specs.TwoEnds.{Sent}
 use Rattle.hq_stream.specs.Receiving.{Receiving, IsOf, came}
 use Rattle.hq_stream.proofs.Taking.{bytes_at, came_is, came_grows}
-use Rattle.hq_link.specs.declared.datagram.Datagram.{Datagram}
 use Rattle.hq_link.specs.declared.datagram.Packet.{Packet}
 use Rattle.hq_link.specs.declared.datagram.Packet.TheVariants.{Data, Eos, Ack, Probe}
 use Rattle.hq_link.specs.declared.link.LinkFault.{LinkFault}
 use Rattle.hq_link.specs.declared.link.LinkFault.TheVariants as link_fault
 use Rattle.hq_link.specs.declared.route.Route.{Route}
 use Rattle.hq_link.specs.Gram.{Fits, gram_bytes, may_bring}
-use Rattle.hq_link.specs.Link.{LinkState, Told, IsIn, added, IsLess, MayCome, IsSent, IsNext}
-use Rattle.hq_link.specs.Streams.{gram, gram_of, ack_of, probe_of, is_of, piece_of, number_of, piece_for, ack_for, piece_in, ack_in}
+use Rattle.hq_link.specs.Link.{LinkState, Told, IsIn, added, IsLess, MayCome, IsSent}
+use Rattle.hq_link.specs.Streams.{gram, ack_of, is_of, piece_of, number_of, piece_for, ack_for, piece_in, ack_in}
 use Rattle.hq_link.proofs.GramLaws.{gram_again}
-use Rattle.hq_send.specs.Sending.{Sending, after_due, after_ack, after_quiet, is_new, in_window}
+use Rattle.hq_send.specs.Sending.{Sending, after_due, is_new, in_window}
 use Rattle.hq_recv.specs.Taking.{Taker, after, drained, with_more}
 use Rattle.hq_pump.specs.declared.lane.Lane.{Lane}
-use Rattle.hq_pump.specs.Exchange.{Exchange, Says, piece, probe, Sends, Answers, IsTold, Hears, Misses, Rests, Fails, HandsOver, Step, sends, answers_it, is_told, hears, misses, rests, fails, hands_over, gives_up, Run, still, more, acknowledged, received, asked_again}
+use Rattle.hq_pump.specs.Exchange.{Exchange, Says, piece, probe, Step, sends, answers_it, is_told, hears, misses, rests, fails, hands_over, gives_up, Run, still, more, acknowledged, received, asked_again}
 use Rattle.hq_pump.specs.Safe.{IsHonest, IsRouted, IsFront, WhereKnown, AreHonest, IsKnown, IsSafe, IsWithin, Grows}
 use Rattle.hq_pump.proofs.Steps.{due_route, due_stream}
 
@@ -45,7 +44,7 @@ get_set_other (x ∷ xs) zero (suc j) y z e = inr (e, λ same. absurd (omega (ar
 get_set_other (x ∷ xs) (suc i) zero y z e = inr (e, λ same. absurd (omega (arith, same)))
 get_set_other (x ∷ xs) (suc i) (suc j) y z e = elim (get_set_other xs i j y z e) [ inl p ↦ inl (ap suc p.0, p.1) | inr h ↦ inr (h.0, λ same. h.1 (omega (arith, same))) ]
 
-same_some : {A : Type 0} (o : Option A) (x y : A) → o ≡ Some x → o ≡ Some y → x ≡ y
+pub same_some : {A : Type 0} (o : Option A) (x y : A) → o ≡ Some x → o ≡ Some y → x ≡ y
 same_some o x y e f = let both : Some x ≡ Some y = sym e ∙ f in cc
 
 -- what no step changes of a stream
@@ -248,13 +247,21 @@ front_on first now y z same state acked front = record {
   acked = acked;
 }
 
-due_acked : (s : Sending) → (after_due s).acked ≡ s.acked
+pub due_acked : (s : Sending) → (after_due s).acked ≡ s.acked
 due_acked s = by s.again (in_window s s.next)
   where
     by : (a b : Bool) → (cond a (record s { again = false }) (cond b (record s { next = suc s.next }) s)).acked ≡ s.acked
     by true b = refl
     by false true = refl
     by false false = refl
+
+pub due_next : (s : Sending) → s.next ≤ (after_due s).next
+due_next s = by s.again (in_window s s.next)
+  where
+    by : (a b : Bool) → s.next ≤ (cond a (record s { again = false }) (cond b (record s { next = suc s.next }) s)).next
+    by true b = omega arith
+    by false true = omega arith
+    by false false = omega arith
 
 said_front : (first now : ℕ → List ℕ) (lane left : Lane) (bytes : List ℕ) → Says lane bytes left → IsFront first now lane → IsFront first now left
 said_front first now lane left bytes (piece n p small due at) front =
@@ -348,7 +355,7 @@ known_set q m to first s place lane left link base owed at same grown less front
     ]) front
 
 -- what came was told to be able to
-honest_came : (first : ℕ → List ℕ) (s : Exchange) (x : List ℕ) (j : ℕ) (z : Lane) (may : Told) → s.link.may ≡ may → MayCome may x → slice_get s.lanes j ≡ Some z → WhereKnown may (IsKnown first s) → WhereKnown may (IsHonest z.sender.route z.sender.stream z.receiver.state.wanted x)
+pub honest_came : (first : ℕ → List ℕ) (s : Exchange) (x : List ℕ) (j : ℕ) (z : Lane) (may : Told) → s.link.may ≡ may → MayCome may x → slice_get s.lanes j ≡ Some z → WhereKnown may (IsKnown first s) → WhereKnown may (IsHonest z.sender.route z.sender.stream z.receiver.state.wanted x)
 honest_came first s x j z None was came at known = tt
 honest_came first s x j z (Some xs) was came at known = subst (AreHonest z.sender.route z.sender.stream z.receiver.state.wanted) was (known.coming j z at) x came
 

@@ -1,20 +1,19 @@
 -- What an exchange begins with, and what was taken at its end.
-use Rattle.std.proofs.Common.{◌≡◌, ◌⊎◌, ℕ, zero, suc, ◌+◌, ◌*◌, ◌^◌, ◌<◌, ◌≤◌, Bool, true, false, ◌&&◌, cond, nat_eq, List, [], ◌∷◌, ◌++◌, length, take, map, Option, Some, None, Result, Ok, Err, refl, sym, ap, subst, ◌∙◌, arith, inl, inr}
-use Rattle.std.specs.Prelude.{All, Vec, slice_get, slice_set, slice_index_or}
+use Rattle.std.proofs.Common.{◌≡◌, ℕ, zero, suc, ◌*◌, ◌<◌, Bool, true, false, cond, nat_eq, List, [], ◌∷◌, ◌++◌, length, take, map, Option, Some, None, Result, refl, sym, ap, subst, ◌∙◌, arith, inl, inr}
+use Rattle.std.specs.Prelude.{All, Vec, slice_get, slice_set}
 use Rattle.std.proofs.lemmas.Bool.{and_parts, eqb-true}
-use Rattle.hq_stream.specs.Receiving.{fresh, IsOf}
 use Rattle.hq_stream.proofs.Runs.{start_is}
 use Rattle.hq_link.specs.declared.datagram.Datagram.{Datagram}
 use Rattle.hq_link.specs.declared.route.Route.{Route}
 use Rattle.hq_link.specs.Reading.{gram_at}
-use Rattle.hq_link.specs.Link.{LinkState, Told, IsIn}
-use Rattle.hq_link.specs.Streams.{is_of, piece_of, number_of, piece_for, ack_for, piece_in, ack_in}
+use Rattle.hq_link.specs.Link.{LinkState, Told}
+use Rattle.hq_link.specs.Streams.{is_of, piece_of, number_of, piece_for, ack_for}
 use Rattle.hq_pump.specs.declared.end.ExchangeEnd.{ExchangeEnd}
 use Rattle.hq_pump.specs.declared.lane.Lane.{Lane}
-use Rattle.hq_pump.specs.Exchange.{Exchange, Step, sends, answers_it, is_told, hears, misses, rests, fails, hands_over, gives_up, Run, still, more, acknowledged, received, asked_again}
+use Rattle.hq_pump.specs.Exchange.{Exchange, Step, sends, answers_it, is_told, hears, misses, rests, fails, hands_over, gives_up, Run, still, more, acknowledged, asked_again}
 use Rattle.hq_pump.specs.Safe.{IsHonest, IsRouted, IsFront, WhereKnown, AreHonest, IsKnown, IsSafe, IsWithin, IsEarlier, AreEarlier, AreAlone, TakesFront, TakeFronts}
 use Rattle.hq_pump.specs.Seen.{seen}
-use Rattle.hq_pump.specs.Pumping.{at, new_lane, HasRun, HasRunOr}
+use Rattle.hq_pump.specs.Pumping.{at, new_lane, HasRunOr}
 use Rattle.hq_pump.proofs.Safety.{Same, said_same, acked_same, same_lane, safe_run}
 
 pub append_nothing : (xs : List ℕ) → xs ++ [] ≡ xs

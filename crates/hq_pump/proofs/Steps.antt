@@ -1,15 +1,15 @@
 -- Steps of an exchange, one after another.
-use Rattle.std.proofs.Common.{◌≡◌, ◌⊎◌, ℕ, zero, suc, ◌+◌, ◌-◌, ◌*◌, ◌/◌, ◌^◌, ◌<◌, ◌≤◌, Bool, true, false, cond, ltb, leb, nat_eq, List, [], ◌∷◌, length, take, map, Option, Some, None, Result, Ok, Err, refl, sym, ap, subst, ◌∙◌, arith, inl, inr}
+use Rattle.std.proofs.Common.{◌≡◌, ℕ, zero, suc, ◌+◌, ◌*◌, ◌^◌, ◌<◌, ◌≤◌, Bool, true, false, cond, ltb, nat_eq, List, [], ◌∷◌, Option, Some, None, Result, refl, sym, ap, subst, ◌∙◌, arith}
 use Rattle.std.specs.Prelude.{slice_get, slice_set, slice_range}
 use Rattle.std.proofs.lemmas.Bool.{ltb-false, eqb-false}
 use Rattle.hq_stream.specs.Piece.{Piece, Bytes, End, eos, piece_at}
 use Rattle.hq_link.specs.declared.link.LinkFault.{LinkFault}
 use Rattle.hq_link.specs.Gram.{gram_bytes}
-use Rattle.hq_link.specs.Link.{LinkState, IsSent, IsNext}
-use Rattle.hq_link.specs.Streams.{gram_of, ack_of, probe_of}
+use Rattle.hq_link.specs.Link.{LinkState, IsSent}
+use Rattle.hq_link.specs.Streams.{gram_of}
 use Rattle.hq_send.specs.Sending.{Sending, due_now, after_due, in_window}
 use Rattle.hq_pump.specs.declared.lane.Lane.{Lane}
-use Rattle.hq_pump.specs.Exchange.{Exchange, Says, piece, Sends, Step, sends, Run, still, more, fault_of, is_done}
+use Rattle.hq_pump.specs.Exchange.{Exchange, Says, piece, Step, sends, Run, still, more, fault_of, is_done}
 use Rattle.hq_pump.specs.Pumping.{StandsAt, moved}
 
 pub joined : (s t u : Exchange) → Run s t → Run t u → Run s u

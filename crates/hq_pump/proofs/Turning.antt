@@ -1,16 +1,16 @@
 -- Turns of an exchange over its streams, one after another.
-use Rattle.std.proofs.Common.{◌≡◌, ◌⊎◌, ℕ, zero, suc, ◌+◌, ◌-◌, ◌*◌, ◌^◌, ◌<◌, ◌≤◌, min, max, Bool, true, false, ◌&&◌, cond, ltb, nat_eq, List, [], ◌∷◌, ◌++◌, length, get_or, take, drop, map, Option, Some, None, Result, Ok, Err, refl, sym, ap, subst, ◌∙◌, arith, inl, inr}
+use Rattle.std.proofs.Common.{◌≡◌, ℕ, zero, suc, ◌+◌, ◌*◌, ◌<◌, ◌≤◌, Bool, true, false, ◌&&◌, cond, ltb, List, [], ◌∷◌, ◌++◌, length, get_or, take, drop, map, Option, Some, None, refl, sym, ap, subst, ◌∙◌, arith, inl, inr}
 use Rattle.std.specs.Prelude.{slice_get, slice_set, position}
 use Rattle.std.specs.List.{list_all, position_from, position_or_len}
 use Rattle.std.proofs.lemmas.Iterator.Adapters.{position_from-zero}
-use Rattle.std.proofs.lemmas.Bool.{cases_lt, ltb-true}
+use Rattle.std.proofs.lemmas.Bool.{and_parts, cases_lt, ltb-true}
+use Rattle.std.proofs.lemmas.List.Quantifiers.{position-Some}
 use Rattle.hq_link.specs.declared.datagram.Datagram.{Datagram}
-use Rattle.hq_link.specs.declared.link.Got.TheVariants.{Bytes, Quiet}
 use Rattle.hq_link.specs.declared.link.LinkFault.{LinkFault}
-use Rattle.hq_link.specs.Link.{LinkState, IsNext}
-use Rattle.hq_send.specs.Sending.{Sending, due_now}
+use Rattle.hq_link.specs.Link.{LinkState}
+use Rattle.hq_send.specs.Sending.{due_now}
 use Rattle.hq_pump.specs.declared.lane.Lane.{Lane}
-use Rattle.hq_pump.specs.Exchange.{Exchange, Run, still, more, IsNobodys, is_from, is_done, asked_again}
+use Rattle.hq_pump.specs.Exchange.{Exchange, Run, IsItsOwn, IsNobodys, is_from, is_done, asked_again}
 use Rattle.hq_pump.specs.Pumping.{at, StandsAt, moved, AreIdle, stream_left, streams_left, again_weight, link_left, work_left, place_in, all_done}
 use Rattle.hq_pump.proofs.Steps.{joined}
 use Rattle.hq_pump.proofs.Safety.{get_set_other}
@@ -127,3 +127,21 @@ below_some false k n p lt e = absurd cc
 pub place_below : (lanes : List Lane) (o : Option Datagram) (p : ℕ) → place_in lanes o ≡ Some p → p < length lanes
 place_below lanes None p e = absurd cc
 place_below lanes (Some d) p e = below_some (ltb (position_or_len (is_from d.from) lanes) (length lanes)) (position_or_len (is_from d.from) lanes) (length lanes) p (ltb-true (position_or_len (is_from d.from) lanes) (length lanes)) e
+
+get_read : (xs : List Lane) (i : ℕ) (x : Lane) → slice_get xs i ≡ Some x → get_or xs i x ≡ x
+get_read [] i x e = absurd cc
+get_read (y ∷ xs) zero x e = let same : y ≡ x = cc in same
+get_read (y ∷ xs) (suc i) x e = get_read xs i x e
+
+-- and the datagram is from its node
+pub own_at : (lanes : List Lane) (o : Option Datagram) (p : ℕ) (lane : Lane) → place_in lanes o ≡ Some p → slice_get lanes p ≡ Some lane → IsItsOwn lane o
+own_at lanes None p lane e at = absurd cc
+own_at lanes (Some d) p lane e at =
+    let found = position-Some (is_from d.from) lanes p lane e in
+    subst (λ (l : Lane). is_from d.from l ≡ true) (get_read lanes p lane at) found.1
+
+-- where all are done, each is
+pub done_at : (lanes : List Lane) (i : ℕ) (lane : Lane) → all_done lanes ≡ true → slice_get lanes i ≡ Some lane → is_done lane ≡ true
+done_at [] i lane done e = absurd cc
+done_at (x ∷ xs) zero lane done e = ap is_done (let same : lane ≡ x = cc in same) ∙ (and_parts (is_done x) (list_all is_done xs) done).0
+done_at (x ∷ xs) (suc i) lane done e = done_at xs i lane (and_parts (is_done x) (list_all is_done xs) done).1 e

@@ -1,27 +1,25 @@
 -- Where all streams are done, all of them was handed over.
-use Rattle.std.proofs.Common.{◌≡◌, ◌⊎◌, ℕ, zero, suc, ◌+◌, ◌<◌, ◌≤◌, Bool, true, false, ◌&&◌, ◌||◌, cond, ltb, leb, nat_eq, List, [], ◌∷◌, ◌++◌, length, take, map, Option, Some, None, Result, Ok, Err, refl, sym, ap, subst, ◌∙◌, arith, inl, inr}
-use Rattle.std.specs.Prelude.{All, Vec, OnOk, slice_get, slice_set}
-use Rattle.std.specs.List.{list_all}
+use Rattle.std.proofs.Common.{◌≡◌, ℕ, ◌+◌, ◌<◌, Bool, true, false, ◌||◌, cond, ltb, leb, nat_eq, List, [], ◌++◌, take, map, Option, Some, None, Result, Ok, Err, refl, sym, ap, subst, ◌∙◌, arith, inl, inr}
+use Rattle.std.specs.Prelude.{All, Vec, OnOk, slice_get}
 use Rattle.std.proofs.lemmas.Bool.{and_parts, or_parts, cases_eq}
-use Rattle.hq_stream.specs.Piece.{eos}
 use Rattle.hq_stream.specs.TwoEnds.{Sent}
-use Rattle.hq_stream.specs.Receiving.{Receiving, is_over, came}
+use Rattle.hq_stream.specs.Receiving.{Receiving, is_over}
 use Rattle.hq_stream.proofs.Taking.{whole_is}
 use Rattle.hq_link.specs.declared.link.LinkFault.TheVariants as link_fault
 use Rattle.hq_link.specs.declared.route.Route.{Route}
 use Rattle.hq_link.specs.Link.{LinkState, Told}
 use Rattle.hq_link.specs.Streams.{piece_in, is_probe_of}
-use Rattle.hq_recv.specs.Taking.{Taker, took, took_of, after, drained}
-use Rattle.hq_recv.specs.declared.took.Took.{Took}
+use Rattle.hq_recv.specs.Taking.{Taker, took, after, drained}
 use Rattle.hq_recv.specs.declared.took.Took.TheVariants.{New, Old, Ahead, Foreign}
 use Rattle.hq_pump.specs.declared.end.ExchangeEnd.{ExchangeEnd}
 use Rattle.hq_pump.specs.declared.lane.Lane.{Lane}
-use Rattle.hq_pump.specs.Exchange.{Exchange, Says, piece, probe, Step, sends, answers_it, is_told, hears, misses, rests, fails, hands_over, gives_up, Run, still, more, acknowledged, received, owes, answers, asked_again, is_done, is_sent}
+use Rattle.hq_pump.specs.Exchange.{Exchange, Step, sends, answers_it, is_told, hears, misses, rests, fails, hands_over, gives_up, Run, still, more, acknowledged, received, owes, answers, asked_again, is_done, is_sent}
 use Rattle.hq_pump.specs.Safe.{IsFront, WhereKnown, IsKnown, IsWithin, AreEarlier, AreAlone, TakeAll}
 use Rattle.hq_pump.specs.Seen.{seen}
-use Rattle.hq_pump.specs.Pumping.{at, new_lane, all_done, HasRun, HasRunOr}
+use Rattle.hq_pump.specs.Pumping.{at, new_lane, all_done, HasRunOr}
 use Rattle.hq_pump.proofs.Safety.{get_set_other, get_map, said_receiver, safe_run}
-use Rattle.hq_pump.proofs.Start.{After, after_run, mapped_get, get_mapped, new_safe, append_nothing}
+use Rattle.hq_pump.proofs.Turning.{done_at}
+use Rattle.hq_pump.proofs.Start.{after_run, mapped_get, get_mapped, new_safe, append_nothing}
 
 -- what was accepted was handed over, but where an answer is owed
 abbrev IsHanded : Exchange → Type 0
@@ -103,11 +101,6 @@ handed_run s t (more u w run step) is = handed_step u w step (handed_run s u run
 
 new_handed : (q m t : ℕ) (streams : List (ℕ × List ℕ)) (link : LinkState) (base : ℕ) (first : ℕ → List ℕ) → IsHanded (at (map (new_lane q m t) streams) link base first None)
 new_handed q m t streams link base first i lane e free whole = let y = get_mapped (new_lane q m t) streams i lane e in subst (λ (l : Lane). l.receiver.state.got ≡ []) y.2 refl
-
-done_at : (lanes : List Lane) (i : ℕ) (lane : Lane) → all_done lanes ≡ true → slice_get lanes i ≡ Some lane → is_done lane ≡ true
-done_at [] i lane done e = absurd cc
-done_at (x ∷ xs) zero lane done e = ap is_done (let same : lane ≡ x = cc in same) ∙ (and_parts (is_done x) (list_all is_done xs) done).0
-done_at (x ∷ xs) (suc i) lane done e = done_at xs i lane (and_parts (is_done x) (list_all is_done xs) done).1 e
 
 all_at : (first now : ℕ → List ℕ) (lane : Lane) (x : ℕ × List ℕ) → lane.sender.route.from ≡ x.0 → lane.sender.stream ≡ x.1 → is_done lane ≡ true → lane.receiver.state.got ≡ [] → IsFront first now lane → now x.0 ≡ first x.0 ++ x.1
 all_at first now lane x from stream done handed front =

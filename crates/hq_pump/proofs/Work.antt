@@ -1,16 +1,15 @@
 -- Each turn leaves less work.
-use Rattle.std.proofs.Common.{◌≡◌, ◌⊎◌, ℕ, suc, ◌+◌, ◌-◌, ◌*◌, ◌/◌, ◌^◌, ◌<◌, ◌≤◌, Bool, true, false, ◌&&◌, cond, ltb, leb, List, length, min, max, take, map, Option, Some, None, Result, Ok, Err, refl, sym, ap, subst, ◌∙◌, arith, inl, inr}
-use Rattle.std.specs.Prelude.{OnOk, IfOk, slice_get, slice_set}
+use Rattle.std.proofs.Common.{◌≡◌, ℕ, suc, ◌+◌, ◌-◌, ◌*◌, ◌^◌, ◌<◌, ◌≤◌, Bool, true, false, cond, ltb, leb, List, min, max, take, Result, Ok, Err, refl, ap, arith, inl, inr}
+use Rattle.std.specs.Prelude.{OnOk, IfOk}
 use Rattle.std.proofs.lemmas.Bool.{ltb-true, leb-true, and_parts}
-use Rattle.hq_value.specs.Causes.{Rose}
 use Rattle.hq_stream.specs.Piece.{eos}
 use Rattle.hq_link.specs.declared.link.Got.TheVariants.{Bytes, Quiet}
 use Rattle.hq_link.specs.declared.link.LinkFault.{LinkFault}
-use Rattle.hq_link.specs.Link.{LinkState, IsNext, IsInTurn, is_ack, one_if, ack_count, other_count}
-use Rattle.hq_send.specs.Sending.{Sending, is_new, after_ack}
+use Rattle.hq_link.specs.Link.{LinkState, IsNext, is_ack, one_if, ack_count, other_count}
+use Rattle.hq_send.specs.Sending.{is_new}
 use Rattle.hq_pump.specs.declared.lane.Lane.{Lane}
-use Rattle.hq_pump.specs.Exchange.{acknowledged, asked_again}
-use Rattle.hq_pump.specs.Pumping.{lost_at, again_weight, stream_left, streams_left, link_left, work_left}
+use Rattle.hq_pump.specs.Exchange.{acknowledged}
+use Rattle.hq_pump.specs.Pumping.{lost_at, again_weight, stream_left, link_left, work_left}
 
 counts : (bytes : List ℕ) → ack_count bytes + other_count bytes ≡ 1
 counts bytes = by (is_ack bytes)

@@ -4,20 +4,18 @@
 --                           owed, and why a call failed, where one did
 --     Step s t              one step
 --     Run s t               any number of them
-use Rattle.std.specs.Prelude.{◌≡◌, ◌≢◌, ◌⊎◌, ℕ, suc, ◌+◌, ◌^◌, ◌<◌, ◌≤◌, min, Bool, true, false, ◌&&◌, ◌||◌, not, List, [], ◌∷◌, length, take, map, Option, Some, None, Result, Ok, Err, slice_get, slice_set, nat_lt, nat_le, ◌==◌, if◌then◌else◌}
+use Rattle.std.specs.Prelude.{◌≡◌, ℕ, ◌^◌, ◌<◌, Bool, true, false, ◌&&◌, ◌||◌, not, List, [], take, map, Option, Some, None, Result, Ok, Err, slice_get, slice_set, nat_lt, ◌==◌, if◌then◌else◌}
 use Rattle.hq_value.specs.declared.fault.Failed.{Failed}
 use Rattle.hq_stream.specs.Piece.{Piece, eos, piece_at}
-use Rattle.hq_stream.specs.TwoEnds.{Sent}
 use Rattle.hq_link.specs.declared.datagram.Datagram.{Datagram}
 use Rattle.hq_link.specs.declared.link.Got.TheVariants.{Bytes, Quiet}
 use Rattle.hq_link.specs.declared.link.LinkFault.{LinkFault}
 use Rattle.hq_link.specs.declared.link.LinkFault.TheVariants as link_fault
-use Rattle.hq_link.specs.declared.route.Route.{Route}
 use Rattle.hq_link.specs.Gram.{gram_bytes}
 use Rattle.hq_link.specs.Reading.{gram_at}
 use Rattle.hq_link.specs.Link.{LinkState, IsSent, IsNext}
 use Rattle.hq_link.specs.Streams.{gram_of, ack_of, probe_of, piece_in, ack_in, is_probe_of}
-use Rattle.hq_send.specs.Sending.{Sending, due_now, after_due, is_new, after_ack, after_quiet}
+use Rattle.hq_send.specs.Sending.{due_now, after_due, is_new, after_ack, after_quiet}
 use Rattle.hq_recv.specs.Taking.{Taker, took, after, drained, with_more}
 use Rattle.hq_recv.specs.declared.took.Took.{Took}
 use Rattle.hq_recv.specs.declared.took.Took.TheVariants.{New, Old, Ahead, Foreign}
@@ -79,6 +77,11 @@ abbrev pub IsNobodys : List Lane → Option Datagram → Type 0
 IsNobodys lanes None = Unit {0}
 IsNobodys lanes (Some d) = (i : ℕ) (lane : Lane) → slice_get lanes i ≡ Some lane → is_from d.from lane ≡ false
 
+-- it is from this stream's node
+abbrev pub IsItsOwn : Lane → Option Datagram → Type 0
+IsItsOwn lane None = ⊥
+IsItsOwn lane (Some d) = is_from d.from lane ≡ true
+
 -- nothing is due in any stream, and one isn't done: it is time to ask the link
 pub record IsReady (s : Exchange) : Type 0 where
   pub idle : (i : ℕ) (lane : Lane) → slice_get s.lanes i ≡ Some lane → due_now lane.sender ≡ None
@@ -132,7 +135,7 @@ pub record IsTold (s t : Exchange) : Type 0 where
   pub ack : ack_in lane.sender.route (take count into) ≡ Some n
   pub is : t ≡ record s { lanes = slice_set s.lanes place (acknowledged lane n); link = link; base = if is_new lane.sender n then link.troubles else s.base }
 
--- a piece or a question came
+-- a piece or a question came, for the stream of the node that it is from
 pub record Hears (s t : Exchange) : Type 0 where
   pub ready : IsReady s
   pub place : ℕ
@@ -142,6 +145,7 @@ pub record Hears (s t : Exchange) : Type 0 where
   pub link : LinkState
   pub next : IsNext s.link (Ok (Bytes count)) into link
   pub at : slice_get s.lanes place ≡ Some lane
+  pub own : IsItsOwn lane (gram_at (take count into))
   pub no_ack : ack_in lane.sender.route (take count into) ≡ None
   pub is : t ≡ record s {
     lanes = slice_set s.lanes place (record lane { receiver = received lane.receiver (take count into) });

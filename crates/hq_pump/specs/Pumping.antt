@@ -2,10 +2,12 @@
 --     at lanes link base taken fault    an exchange in which no answer is owed
 --     StandsAt s i lane link            a stream of it, and its link
 --     moved s i lane link fault         the stream and the link have changed
+--     begun q m to streams link     an exchange as it begins
+--     pieces_of streams             how many Data and Eos pieces they have
 --     work_left lanes link base     falls with each turn
 --     IsEnd base seq now fault e    how an exchange ends that did not give its streams
 use Rattle.std.specs.List.{list_all}
-use Rattle.std.specs.Prelude.{position, ◌≡◌, ◌⊎◌, ℕ, suc, ◌+◌, ◌-◌, ◌*◌, ◌^◌, ◌<◌, ◌≤◌, min, Bool, true, false, List, [], ◌∷◌, take, Option, Some, None, Result, Ok, Err, slice_get, slice_set, if◌then◌else◌}
+use Rattle.std.specs.Prelude.{position, ◌≡◌, ◌⊎◌, ℕ, suc, ◌+◌, ◌-◌, ◌*◌, ◌^◌, ◌<◌, ◌≤◌, min, Bool, true, false, List, [], ◌∷◌, take, map, Option, Some, None, Result, Ok, Err, slice_get, slice_set, if◌then◌else◌}
 use Rattle.hq_value.specs.Causes.{Rose}
 use Rattle.hq_stream.specs.Piece.{eos}
 use Rattle.hq_link.specs.declared.link.LinkFault.{LinkFault}
@@ -20,7 +22,7 @@ use Rattle.hq_send.specs.Sending.{Sending, due_now}
 use Rattle.hq_pump.specs.declared.end.ExchangeEnd.{ExchangeEnd}
 use Rattle.hq_pump.specs.declared.end.ExchangeEnd.TheVariants as end_variant
 use Rattle.hq_pump.specs.declared.lane.Lane.{Lane}
-use Rattle.hq_pump.specs.Exchange.{Exchange, IsReady, Run, is_done, is_from, is_open}
+use Rattle.hq_pump.specs.Exchange.{Exchange, IsItsOwn, IsReady, Run, is_done, is_from, is_open}
 
 -- no answer is owed
 abbrev pub at : List Lane → LinkState → ℕ → (ℕ → List ℕ) → Option LinkFault → Exchange
@@ -43,6 +45,7 @@ pub record Arrives (s : Exchange) (i : ℕ) (lane : Lane) (count : ℕ) (into : 
   pub lane_is : slice_get s.lanes i ≡ Some lane
   pub next : IsNext s.link (Ok (got.Bytes count)) into link
   pub bytes_are : take count into ≡ bytes
+  pub own : IsItsOwn lane (gram_at bytes)
   pub taken_is : s.taken ≡ taken
 
 -- it was heard, and an answer may be owed
@@ -102,9 +105,14 @@ first_open lanes = lowest_at lanes (position is_open lanes)
 abbrev pub all_done : List Lane → Bool
 all_done lanes = list_all is_done lanes
 
--- how an exchange is over: all streams are done; or so many troubles came, which goes first; or a call failed
+-- no stream is done
+abbrev pub AreOpen : List Lane → Type 0
+AreOpen lanes = (i : ℕ) (lane : Lane) → slice_get lanes i ≡ Some lane → is_done lane ≡ false
+
+-- how an exchange is over: all streams are done, and so many troubles never came, but where there was no stream; or so
+-- many troubles came, which goes first; or a call failed
 abbrev pub IsOver : Exchange → Result Unit ExchangeEnd → Type 0
-IsOver s (Ok done) = (all_done s.lanes ≡ true) × (s.fault ≡ None) × (s.owed ≡ None)
+IsOver s (Ok done) = (all_done s.lanes ≡ true) × (s.fault ≡ None) × (s.owed ≡ None) × (IsLost s.base s.link.troubles → s.lanes ≡ [])
 IsOver s (Err (end_variant.LinkLost seq troubles)) =
     IsLost s.base s.link.troubles × (seq ≡ first_open s.lanes) × (troubles ≡ s.link.troubles - s.base)
 IsOver s (Err end_variant.LinkFailed) = (IsLost s.base s.link.troubles → ⊥) × (s.fault ≡ Some fault.Failed)
@@ -158,6 +166,23 @@ new_lane query motion to stream =
       sender = record { route = route; stream = stream.1; next = 0; acked = 0; again = false };
       receiver = record { route = route; state = fresh };
     }
+
+-- an exchange of these streams as it begins: two new ends of each
+abbrev pub begun : ℕ → ℕ → ℕ → List (ℕ × List ℕ) → LinkState → (ℕ → List ℕ) → Exchange
+begun query motion to streams link taken = at (map (new_lane query motion to) streams) link link.troubles taken None
+
+-- how many Data and Eos pieces the streams have
+abbrev pub pieces_of : List (ℕ × List ℕ) → ℕ
+pieces_of [] = 0
+pieces_of (stream ∷ streams) = suc (eos stream.1) + pieces_of streams
+
+-- the numbers of the streams stay far below the greatest of a datagram
+abbrev pub AreShort : List Lane → Type 0
+AreShort lanes = (i : ℕ) (lane : Lane) → slice_get lanes i ≡ Some lane → eos lane.sender.stream < 2 ^ 60
+
+-- they do, or there was no memory to begin
+abbrev pub AreShortOr : List Lane → LinkState → LinkState → Result Unit ExchangeEnd → Type 0
+AreShortOr lanes old new result = AreShort lanes ⊎ ((result ≡ Err end_variant.NoMemory) × (new ≡ old))
 
 -- an exchange has run to its end, or there was no memory to begin it
 abbrev pub HasRunOr : Exchange → LinkState → (ℕ → List ℕ) → Result Unit ExchangeEnd → Type 0

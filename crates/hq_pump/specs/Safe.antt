@@ -3,10 +3,10 @@
 --                                       that the receiver wants or wanted
 --     IsSafe q m t first s              each stream has its route, and what was taken is a front of it, where the link
 --                                       tells what can arrive
-use Rattle.std.specs.Prelude.{◌≡◌, ◌≢◌, ◌⊎◌, ℕ, ◌+◌, ◌^◌, ◌<◌, ◌≤◌, List, ◌++◌, length, take, Option, Some, None, slice_get}
+use Rattle.std.specs.Prelude.{◌≡◌, ◌⊎◌, ℕ, ◌^◌, ◌<◌, ◌≤◌, List, ◌++◌, length, take, Option, Some, None, slice_get}
 use Rattle.std.specs.Option.{ForSome}
 use Rattle.hq_stream.specs.Piece.{piece_at}
-use Rattle.hq_stream.specs.Receiving.{Receiving, IsOf}
+use Rattle.hq_stream.specs.Receiving.{IsOf}
 use Rattle.hq_link.specs.declared.route.Route.{Route}
 use Rattle.hq_link.specs.declared.datagram.Datagram.{Datagram}
 use Rattle.hq_link.specs.Reading.{gram_at}

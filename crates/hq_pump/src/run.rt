@@ -1,10 +1,13 @@
 //! The pump.
-ghost use Rattle.std.specs.Prelude.{◌≡◌, ◌+◌, ◌<◌, ◌≤◌, ◌↔◌, length, IfOk, OnOk, IfErr, IfSome, Err, None, true, false, All, map, position};
+ghost use Rattle.std.specs.Prelude.{◌≡◌, ◌+◌, ◌-◌, ◌*◌, ◌^◌, ◌<◌, ◌≤◌, ◌↔◌, length, IfOk, OnOk, IfErr, IfSome, Err, None, true, false, All, map, position};
+ghost use Rattle.hq_value.specs.Causes.{RoseBy};
+ghost use Rattle.hq_link.specs.Link.{StaysSound, IsLowered};
 ghost use Rattle.hq_pump.specs.Seen.{seen};
 ghost use Rattle.hq_link.specs.declared.link.LinkFault.{LinkFault};
 ghost use Rattle.hq_pump.specs.Exchange.{Run, is_open};
 ghost use Rattle.hq_pump.specs.Safe.{AreAlone, AreEarlier, Grows, IsOwn, TakeAll, TakeFronts, WhereKnown};
-ghost use Rattle.hq_pump.specs.Pumping.{at, AreIdle, HasItsCause, HasRun, HasRunOr, new_lane, IsEnd, IsLost, lost_at, all_done, first_open, work_left};
+ghost use Rattle.hq_pump.specs.Promise.{IsRoughAtMost, IsOkOrNoMemory};
+ghost use Rattle.hq_pump.specs.Pumping.{at, begun, AreIdle, AreOpen, AreShort, AreShortOr, HasItsCause, HasRun, HasRunOr, new_lane, IsEnd, IsLost, lost_at, all_done, first_open, pieces_of, work_left};
 
 use crate::ExchangeEnd;
 use crate::lane::Lane;
@@ -23,7 +26,7 @@ const TROUBLES: u64 = 32;
 
 /// Sends the streams, each from its node, to the node `to` over the link, and gives what came at its other end to
 /// `take`. Where the link tells what it carries, that is what was sent, whatever the link lost, repeated and
-/// reordered.
+/// reordered. It gives up where the link counted 32 troubles since the last new acknowledgement, or the start.
 pub fn exchange_into<L: Link, T: Take>(
     alloc: Global,
     link: &mut L,
@@ -45,8 +48,18 @@ pub fn exchange_into<L: Link, T: Take>(
     ensures own { Grows (L.state link.old).may (L.state link.new).may (IsOwn query motion) }
     ensures cause { HasItsCause (L.state link.old) (L.state link.new) result }
     ensures runs { HasRunOr
-        (at (map (new_lane query motion to) (seen streams.items)) (L.state link.old) (L.state link.old).troubles (T.taken take.old) None)
+        (begun query motion to (seen streams.items) (L.state link.old) (T.taken take.old))
         (L.state link.new) (T.taken take.new) result }
+    ensures given { OnOk result (WhereKnown (L.state link.new).may
+        (RoseBy (pieces_of (seen streams.items)) (L.state link.old).given (L.state link.new).given)) }
+    ensures sound { (L.state link.old).sound ≡ true → StaysSound (L.state link.old) (L.state link.new) }
+    ensures steady { IsRoughAtMost 0 (L.state link.old)
+        → (L.state link.new).troubles ≡ (L.state link.old).troubles }
+    ensures complete { IsRoughAtMost 15 (L.state link.old) → (L.state link.new).troubles < 2 ^ 64 - 1
+        → IsOkOrNoMemory result }
+    ensures few { IsRoughAtMost 15 (L.state link.old) → (L.state link.new).troubles
+        ≤ (L.state link.old).troubles + 32 * pieces_of (seen streams.items) + 31 }
+    ensures rough { IsLowered (L.state link.old).rough (L.state link.new).rough }
 {
     start(alloc, link, query, motion, to, streams, take)
 }
@@ -64,9 +77,11 @@ fn start<L: Link, T: Take>(
     requires to_node { to < 16 }
     requires from_nodes { All (λ stream. stream.0 < 16) streams.items }
     requires few { length streams.items ≤ 16 }
-    ensures { HasRunOr
-        (at (map (new_lane query motion to) (seen streams.items)) (L.state link.old) (L.state link.old).troubles (T.taken take.old) None)
+    ensures runs { HasRunOr
+        (begun query motion to (seen streams.items) (L.state link.old) (T.taken take.old))
         (L.state link.new) (T.taken take.new) result }
+    ensures short { AreShortOr (map (new_lane query motion to) (seen streams.items))
+        (L.state link.old) (L.state link.new) result }
 {
     let Ok(mut lanes) = lanes(alloc, query, motion, to, streams) else {
         return Err(ExchangeEnd::NoMemory);
@@ -76,7 +91,7 @@ fn start<L: Link, T: Take>(
     pump(link, &mut lanes, &mut into, &mut out, take)
 }
 
-// Two new ends for each stream.
+// Two new ends for each stream. The length of what lies in memory is a number of the machine's.
 fn lanes(
     alloc: Global,
     query: u64,
@@ -86,11 +101,13 @@ fn lanes(
 ) -> Result<Vec<Lane>, NoMemory>
     requires to { to < 16 }
     requires from { All (λ stream. stream.0 < 16) streams.items }
-    ensures { IfOk result (λ lanes. lanes.items ≡ map (new_lane query motion to) (seen streams.items)) }
+    ensures made { IfOk result (λ lanes. lanes.items ≡ map (new_lane query motion to) (seen streams.items)) }
+    ensures short { IfOk result (λ lanes. AreShort lanes.items) }
 {
     let mut lanes = Vec::with_capacity(alloc, streams.len())?;
     'streams: while !streams.is_empty() {
         let (from, bytes) = streams.remove(0);
+        let _count = bytes.len();
         let receiver = Receiver::new(alloc, from, to, query, motion)?;
         let sender = Sender::new(from, to, query, motion, bytes);
         lanes.push(Lane { sender, receiver })?;
@@ -109,6 +126,7 @@ fn pump<L: Link, T: Take>(
     requires room_in { 1224 ≤ length into.old }
     requires room_out { 1224 ≤ length out.old }
     requires few { length lanes.old.items ≤ 16 }
+    requires open_ones { AreOpen lanes.old.items }
     ensures { HasRun
         (at lanes.old.items (L.state link.old) (L.state link.old).troubles (T.taken take.old) None)
         (L.state link.new) (T.taken take.new) result }
@@ -145,6 +163,7 @@ fn turn<L: Link, T: Take>(
         (at lanes.old.items (L.state link.old) base (T.taken take.old) None)
         (L.state link.new) (T.taken take.new) (Err end)) }
     ensures count { length lanes.new.items ≡ length lanes.old.items }
+    ensures not_lost { IfOk result (λ now. (L.state link.new).troubles < lost_at now) }
     ensures less { IfOk result (λ now. work_left lanes.new.items (L.state link.new) now
         < work_left lanes.old.items (L.state link.old) base) }
 {
@@ -182,6 +201,7 @@ fn ask<L: Link, T: Take>(
         (at lanes.old.items (L.state link.old) base (T.taken take.old) None)
         (L.state link.new) (T.taken take.new) (Err end)) }
     ensures count { length lanes.new.items ≡ length lanes.old.items }
+    ensures not_lost { IfOk result (λ now. (L.state link.new).troubles < lost_at now) }
     ensures less { IfOk result (λ now. work_left lanes.new.items (L.state link.new) now
         < work_left lanes.old.items (L.state link.old) base) }
 {

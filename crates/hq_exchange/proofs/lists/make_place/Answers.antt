@@ -1,4 +1,4 @@
-use Rattle.std.proofs.Common.{◌≡◌, ◌∙◌}
+use Rattle.std.proofs.Common.{◌∙◌}
 use Rattle.hq_exchange.proofs.Places.{made_more}
 use Rattle.hq_exchange.proofs.lists.make_place.Goals as goal
 

@@ -1,4 +1,4 @@
-use Rattle.std.proofs.Common.{◌≡◌, ℕ, List, Vec, Global, ap, sym, ◌∙◌, arith}
+use Rattle.std.proofs.Common.{ℕ, Vec, Global, ap, sym, ◌∙◌, arith}
 use Rattle.hq_exchange.proofs.Places.{read_at, set_others, none_there}
 use Rattle.hq_exchange.proofs.lists.take_out.Goals as goal
 

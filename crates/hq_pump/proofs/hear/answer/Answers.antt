@@ -1,9 +1,6 @@
-use Rattle.std.proofs.Common.{◌≡◌, ℕ, List, Bool, true, false, None, subst, sym, ap, ◌∙◌, arith}
-use Rattle.hq_link.specs.Gram.{gram_bytes}
-use Rattle.hq_link.specs.Link.{IsSent}
-use Rattle.hq_link.specs.Streams.{ack_of}
+use Rattle.std.proofs.Common.{subst}
 use Rattle.hq_pump.specs.Pumping.{StandsOwing}
-use Rattle.hq_pump.proofs.Hearing.{answered, none_owed}
+use Rattle.hq_pump.proofs.Hearing.{none_owed}
 use Rattle.hq_pump.proofs.hear.answer.Goals as goal
 
 pub returns-then-owes-clause-runs : goal.returns-then-owes-clause-runs

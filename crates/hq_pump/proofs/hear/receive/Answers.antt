@@ -1,9 +1,7 @@
-use Rattle.std.proofs.Common.{◌≡◌, ℕ, List, Some, None, ◌||◌, subst, sym, ap, ◌∙◌, arith}
+use Rattle.std.proofs.Common.{◌||◌, sym, ap, ◌∙◌, arith}
 use Rattle.hq_link.specs.Streams.{is_probe_of}
 use Rattle.hq_recv.specs.Taking.{Taker}
-use Rattle.hq_recv.specs.declared.took.Took.{Took}
-use Rattle.hq_pump.specs.Exchange.{fault_of, owes, answers}
-use Rattle.hq_pump.specs.declared.lane.Lane.{Lane}
+use Rattle.hq_pump.specs.Exchange.{fault_of, answers}
 use Rattle.hq_pump.proofs.Hearing.{heard_run, missed_run, owes_no_ack}
 use Rattle.hq_pump.proofs.Work.{answer_less}
 use Rattle.hq_pump.proofs.hear.receive.Goals as goal

@@ -1,9 +1,8 @@
-use Rattle.std.proofs.Common.{◌≡◌, ℕ, List, Bool, true, false, None, subst, sym, ap, ◌∙◌, arith}
+use Rattle.std.proofs.Common.{subst, ◌∙◌, arith}
 use Rattle.hq_link.specs.Gram.{gram_bytes}
 use Rattle.hq_link.specs.Link.{IsSent}
 use Rattle.hq_link.specs.Streams.{ack_of}
-use Rattle.hq_pump.specs.Pumping.{StandsOwing}
-use Rattle.hq_pump.proofs.Hearing.{answered, none_owed}
+use Rattle.hq_pump.proofs.Hearing.{answered}
 use Rattle.hq_pump.proofs.hear.send_ack.Goals as goal
 
 pub returns-clause-runs : goal.returns-clause-runs

@@ -1,6 +1,5 @@
-use Rattle.std.proofs.Common.{◌≡◌, ℕ, List, Some, None, subst, sym, ap, ◌∙◌}
+use Rattle.std.proofs.Common.{Some, subst, sym, ap}
 use Rattle.hq_recv.specs.Taking.{Taker}
-use Rattle.hq_pump.specs.declared.lane.Lane.{Lane}
 use Rattle.hq_link.specs.declared.link.LinkFault.TheVariants.{NoMemory}
 use Rattle.hq_pump.specs.Exchange.{Run, fault_of}
 use Rattle.hq_pump.specs.Pumping.{heard}

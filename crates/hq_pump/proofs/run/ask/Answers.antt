@@ -1,8 +1,7 @@
-use Rattle.std.proofs.Common.{◌≡◌, ℕ, List, Bool, true, false, length, Option, Some, None, Result, Ok, Err, subst, sym, ap, ◌∙◌, refl, arith}
+use Rattle.std.proofs.Common.{List, None, subst}
 use Rattle.hq_pump.specs.declared.lane.Lane.{Lane}
-use Rattle.hq_pump.specs.Exchange.{Run, still}
 use Rattle.hq_pump.specs.Pumping.{at, first_open, IsEnd}
-use Rattle.hq_pump.proofs.Over.{ready_at, run_end, run_lost, run_done, run_on, ok_on, err_on}
+use Rattle.hq_pump.proofs.Over.{ready_at, run_end, run_lost}
 use Rattle.hq_pump.proofs.run.ask.Goals as goal
 
 pub returns-in-Err-clause-ends : goal.returns-in-Err-clause-ends
@@ -23,3 +22,6 @@ returns-else-is_lost-clause-goes_on g c =
 
 pub returns-else-is_lost-clause-less : goal.returns-else-is_lost-clause-less
 returns-else-is_lost-clause-less g c = c.in-Ok.ensures.less c.requires.few c.requires.not_lost
+
+pub returns-else-is_lost-clause-not_lost : goal.returns-else-is_lost-clause-not_lost
+returns-else-is_lost-clause-not_lost g c = c.is_lost.ensures.not_lost c.if-is_lost.false

@@ -1,4 +1,4 @@
-use Rattle.std.proofs.Common.{◌≡◌, Some, sym, ap, ◌∙◌}
+use Rattle.std.proofs.Common.{sym, ap, ◌∙◌}
 use Rattle.hq_pump.specs.Pumping.{lowest_at, lowest_of}
 use Rattle.hq_pump.proofs.Turning.{place_read}
 use Rattle.hq_pump.proofs.run.first_open.Goals as goal

@@ -1,9 +1,8 @@
-use Rattle.std.proofs.Common.{◌≡◌, ℕ, List, Bool, true, false, length, Option, Some, None, Result, Ok, Err, subst, sym, ap, ◌∙◌, refl, arith}
-use Rattle.hq_pump.specs.declared.lane.Lane.{Lane}
+use Rattle.std.proofs.Common.{◌≡◌, true, None, subst, sym, ap, ◌∙◌, refl, arith}
 use Rattle.hq_pump.specs.Exchange.{Run, still}
-use Rattle.hq_pump.specs.Pumping.{at, first_open, IsEnd}
+use Rattle.hq_pump.specs.Pumping.{at, all_done}
 use Rattle.hq_pump.proofs.Steps.{joined}
-use Rattle.hq_pump.proofs.Over.{ready_at, run_end, run_lost, run_done, run_on, ok_on, err_on}
+use Rattle.hq_pump.proofs.Over.{run_done, run_on, none_open}
 use Rattle.hq_pump.proofs.run.pump.Goals as goal
 
 pub turns-init : goal.turns-init
@@ -12,6 +11,7 @@ turns-init g c = record {
   room_in = c.requires.room_in;
   room_out = c.requires.room_out;
   few = c.requires.few;
+  fresh = λ _. refl;
 }
 
 pub turns-preserved : goal.turns-preserved
@@ -20,8 +20,15 @@ turns-preserved g c = record {
   room_in = omega (arith, c.turns.invariant.room_in);
   room_out = omega (arith, c.turns.invariant.room_out);
   few = omega (arith, c.turns.invariant.few, c.turn.ensures.count);
+  fresh = λ lost. absurd (omega (arith, lost, c.in-Ok.ensures.not_lost));
 }
 
 pub returns-in-Err : goal.returns-in-Err
 returns-in-Err g c =
     run_on (at c.args.lanes.now.items (g.L.Link.state c.args.link.now) (g.L.Link.state c.args.link.now).troubles (g.T.Take.taken c.args.take.now) None) (at c.turns.lanes.items (g.L.Link.state c.turns.link) c.turns.base (g.T.Take.taken c.turns.take) None) (g.L.Link.state c.turn.new.link) (g.T.Take.taken c.turn.new.take) c.in-Err.end c.turns.invariant.runs c.in-Err.ensures.ends
+
+pub returns-then-all_done : goal.returns-then-all_done
+returns-then-all_done g c =
+    let done : all_done c.turns.lanes.items ≡ true = ap all_done (sym c.deref.ensures.value) ∙ sym c.all_done.ensures ∙ c.if-all_done.true in
+    run_done (at c.args.lanes.now.items (g.L.Link.state c.args.link.now) (g.L.Link.state c.args.link.now).troubles (g.T.Take.taken c.args.take.now) None) c.turns.lanes.items (g.L.Link.state c.turns.link) c.turns.base (g.T.Take.taken c.turns.take) c.turns.invariant.runs done
+    (λ lost. none_open c.turns.lanes.items c.args.lanes.now.items c.requires.open_ones (c.turns.invariant.fresh lost) done)

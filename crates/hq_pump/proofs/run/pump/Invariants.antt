@@ -1,6 +1,6 @@
-use Rattle.std.proofs.Common.{◌≡◌, ℕ, ◌≤◌, length, None}
+use Rattle.std.proofs.Common.{◌≡◌, ◌≤◌, length, None}
 use Rattle.hq_pump.specs.Exchange.{Run}
-use Rattle.hq_pump.specs.Pumping.{at, work_left}
+use Rattle.hq_pump.specs.Pumping.{at, IsLost, work_left}
 use Rattle.hq_pump.proofs.run.pump.Given as goal
 
 abbrev pub invariant-turns : goal.invariant-turns
@@ -9,6 +9,7 @@ invariant-turns g l = record {
   room_in : 1224 ≤ length l.into;
   room_out : 1224 ≤ length l.out;
   few : length l.lanes.items ≤ 16;
+  fresh : IsLost l.base (g.L.Link.state l.link).troubles → l.lanes.items ≡ l.fn.lanes.items;
 }
 
 abbrev pub decreases-turns : goal.decreases-turns

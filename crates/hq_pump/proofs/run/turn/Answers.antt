@@ -1,8 +1,7 @@
-use Rattle.std.proofs.Common.{◌≡◌, ℕ, List, Bool, true, false, length, Option, Some, None, Result, Ok, Err, subst, sym, ap, ◌∙◌, refl, arith}
+use Rattle.std.proofs.Common.{List, None, subst}
 use Rattle.hq_pump.specs.declared.lane.Lane.{Lane}
-use Rattle.hq_pump.specs.Exchange.{Run, still}
 use Rattle.hq_pump.specs.Pumping.{at, first_open, IsEnd}
-use Rattle.hq_pump.proofs.Over.{ready_at, run_end, run_lost, run_done, run_on, ok_on, err_on}
+use Rattle.hq_pump.proofs.Over.{run_end, run_lost, ok_on, err_on}
 use Rattle.hq_pump.proofs.run.turn.Goals as goal
 
 pub returns-in-Err-clause-ends : goal.returns-in-Err-clause-ends
@@ -22,3 +21,6 @@ returns-else-is_lost-clause-goes_on g c =
 pub returns-else-is_lost-clause-ends : goal.returns-else-is_lost-clause-ends
 returns-else-is_lost-clause-ends g c =
     err_on c.ask.result (at c.args.lanes.now.items (g.L.Link.state c.args.link.now) c.args.base (g.T.Take.taken c.args.take.now) None) (at c.send_all.new.lanes.items (g.L.Link.state c.send_all.new.link) c.args.base (g.T.Take.taken c.args.take.now) None) (g.L.Link.state c.ask.new.link) (g.T.Take.taken c.ask.new.take) (c.in-Ok.ensures.runs c.args.base (g.T.Take.taken c.args.take.now)) c.ask.ensures.ends
+
+pub returns-else-is_lost-clause-not_lost : goal.returns-else-is_lost-clause-not_lost
+returns-else-is_lost-clause-not_lost g c = c.ask.ensures.not_lost

@@ -1,4 +1,4 @@
-use Rattle.std.proofs.Common.{◌≡◌, ◌∙◌, refl, Some, None, arith}
+use Rattle.std.proofs.Common.{◌∙◌, refl, Some, None, arith}
 use Rattle.hq_pump.proofs.Steps.{then_run, still_run}
 use Rattle.hq_pump.proofs.send.send_due.Goals as goal
 

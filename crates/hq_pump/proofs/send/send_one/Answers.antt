@@ -1,9 +1,8 @@
-use Rattle.std.proofs.Common.{◌≡◌, ℕ, List, Some, None, Ok, Err, subst, sym, ap, ◌∙◌, refl, arith, take}
+use Rattle.std.proofs.Common.{◌≡◌, None, Ok, Err, subst, sym, ◌∙◌, arith}
 use Rattle.hq_send.specs.Sending.{Sending}
-use Rattle.hq_pump.specs.Exchange.{Exchange, Run, fault_of}
+use Rattle.hq_pump.specs.Exchange.{Run}
 use Rattle.hq_pump.specs.Pumping.{moved}
-use Rattle.hq_pump.specs.declared.lane.Lane.{Lane}
-use Rattle.hq_pump.proofs.Steps.{says_due, sent_run, nothing_due, stays, still_run, done_due}
+use Rattle.hq_pump.proofs.Steps.{says_due, sent_run, nothing_due, still_run, done_due}
 use Rattle.hq_pump.proofs.send.send_one.Goals as goal
 
 pub returns-in_default-clause-runs : goal.returns-in_default-clause-runs

@@ -1,4 +1,4 @@
-use Rattle.std.proofs.Common.{◌≡◌, ℕ, List, subst, sym, ap, ◌∙◌, arith}
+use Rattle.std.proofs.Common.{subst, sym, ◌∙◌, arith}
 use Rattle.hq_link.specs.Gram.{gram_bytes}
 use Rattle.hq_link.specs.Streams.{probe_of}
 use Rattle.hq_pump.specs.Exchange.{Says, probe}

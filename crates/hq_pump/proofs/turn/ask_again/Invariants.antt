@@ -1,6 +1,5 @@
-use Rattle.std.proofs.Common.{◌≡◌, ℕ, ◌+◌, ◌*◌, ◌≤◌, ◌++◌, List, length, take, drop, map, None}
-use Rattle.hq_pump.specs.Exchange.{Run, asked_again}
-use Rattle.hq_pump.specs.Pumping.{at, AreIdle, work_left}
+use Rattle.std.proofs.Common.{◌≡◌, ◌++◌, length, take, drop, map}
+use Rattle.hq_pump.specs.Exchange.{asked_again}
 use Rattle.hq_pump.proofs.turn.ask_again.Given as goal
 
 abbrev pub invariant-loop-i : goal.invariant-loop-i

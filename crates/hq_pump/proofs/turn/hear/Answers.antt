@@ -1,12 +1,12 @@
-use Rattle.std.proofs.Common.{◌≡◌, ℕ, List, Bool, true, false, length, Option, Some, None, Result, Ok, Err, subst, sym, ap, ◌∙◌, refl, arith}
+use Rattle.std.proofs.Common.{List, true, false, Some, None, sym, ap, ◌∙◌, arith}
 use Rattle.hq_link.specs.Reading.{gram_at}
 use Rattle.hq_link.specs.Streams.{ack_in}
 use Rattle.hq_send.specs.Sending.{Sending}
 use Rattle.hq_pump.specs.declared.lane.Lane.{Lane}
-use Rattle.hq_pump.specs.Pumping.{at, place_of, stream_left}
-use Rattle.hq_pump.proofs.Turning.{place_read, place_below, work_anew}
-use Rattle.hq_pump.proofs.Listening.{missed_nobodys, told_run, heard_at, rest_run, fail_run}
-use Rattle.hq_pump.proofs.Work.{acked_less, bytes_less, quiet_less, ok_less}
+use Rattle.hq_pump.specs.Pumping.{place_of, stream_left}
+use Rattle.hq_pump.proofs.Turning.{place_read, place_below, own_at, work_anew}
+use Rattle.hq_pump.proofs.Listening.{missed_nobodys, told_run, heard_at}
+use Rattle.hq_pump.proofs.Work.{acked_less}
 use Rattle.hq_pump.proofs.turn.hear.Goals as goal
 
 pub returns-in_default-clause-runs : goal.returns-in_default-clause-runs
@@ -56,7 +56,7 @@ returns-in-Ok-clause-runs g c s count into comes =
     let lane = c.index_mut-lane.result.now in
     let there = place_read c.args.lanes.now.items c.in-Some.place lane (place_below c.args.lanes.now.items (gram_at c.args.bytes.now) c.in-Some.place found) c.index_mut-lane.ensures.value in
     let no_ack = sym (c.ack_in.ensures ∙ ap (λ r. ack_in r c.args.bytes.now) c.route.ensures) ∙ c.in-None.is in
-    heard_at s c.args.lanes.now.items c.args.base count into (g.L.Link.state c.args.link.now) (g.L.Link.state c.receive.new.link) c.args.bytes.now (g.T.Take.taken c.args.take.now) (g.T.Take.taken c.receive.new.take) c.in-Some.place lane c.receive.new.lane None comes there
+    heard_at s c.args.lanes.now.items c.args.base count into (g.L.Link.state c.args.link.now) (g.L.Link.state c.receive.new.link) c.args.bytes.now (g.T.Take.taken c.args.take.now) (g.T.Take.taken c.receive.new.take) c.in-Some.place lane c.receive.new.lane None comes there (own_at c.args.lanes.now.items (gram_at c.args.bytes.now) c.in-Some.place lane found there)
     (λ t i n raw arrives. c.in-Ok.ensures.runs t i n raw arrives no_ack)
 
 pub returns-in-Err-clause-runs : goal.returns-in-Err-clause-runs
@@ -65,7 +65,7 @@ returns-in-Err-clause-runs g c s count into comes =
     let lane = c.index_mut-lane.result.now in
     let there = place_read c.args.lanes.now.items c.in-Some.place lane (place_below c.args.lanes.now.items (gram_at c.args.bytes.now) c.in-Some.place found) c.index_mut-lane.ensures.value in
     let no_ack = sym (c.ack_in.ensures ∙ ap (λ r. ack_in r c.args.bytes.now) c.route.ensures) ∙ c.in-None.is in
-    heard_at s c.args.lanes.now.items c.args.base count into (g.L.Link.state c.args.link.now) (g.L.Link.state c.receive.new.link) c.args.bytes.now (g.T.Take.taken c.args.take.now) (g.T.Take.taken c.receive.new.take) c.in-Some.place lane c.receive.new.lane (Some c.in-Err.fault) comes there
+    heard_at s c.args.lanes.now.items c.args.base count into (g.L.Link.state c.args.link.now) (g.L.Link.state c.receive.new.link) c.args.bytes.now (g.T.Take.taken c.args.take.now) (g.T.Take.taken c.receive.new.take) c.in-Some.place lane c.receive.new.lane (Some c.in-Err.fault) comes there (own_at c.args.lanes.now.items (gram_at c.args.bytes.now) c.in-Some.place lane found there)
     (λ t i n raw arrives. c.in-Err.ensures.runs t i n raw arrives no_ack)
 
 pub returns-in-Ok-clause-less : goal.returns-in-Ok-clause-less

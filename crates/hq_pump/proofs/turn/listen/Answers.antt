@@ -1,14 +1,9 @@
-use Rattle.std.proofs.Common.{◌≡◌, ℕ, List, Bool, true, false, length, Option, Some, None, Result, Ok, Err, subst, sym, ap, ◌∙◌, refl, arith}
+use Rattle.std.proofs.Common.{None, Ok, subst, refl, arith}
 use Rattle.hq_link.specs.declared.link.Got.{Got}
 use Rattle.hq_link.specs.Link.{IsNext}
-use Rattle.hq_link.specs.Reading.{gram_at}
-use Rattle.hq_link.specs.Streams.{ack_in}
-use Rattle.hq_send.specs.Sending.{Sending}
-use Rattle.hq_pump.specs.declared.lane.Lane.{Lane}
-use Rattle.hq_pump.specs.Pumping.{at, place_of, stream_left}
-use Rattle.hq_pump.proofs.Turning.{place_read, place_below, work_anew}
-use Rattle.hq_pump.proofs.Listening.{missed_nobodys, told_run, heard_at, rest_run, fail_run}
-use Rattle.hq_pump.proofs.Work.{acked_less, bytes_less, quiet_less, ok_less}
+use Rattle.hq_pump.specs.Pumping.{at}
+use Rattle.hq_pump.proofs.Listening.{rest_run, fail_run}
+use Rattle.hq_pump.proofs.Work.{bytes_less, quiet_less, ok_less}
 use Rattle.hq_pump.proofs.turn.listen.Goals as goal
 
 pub returns-in-Err-clause-runs : goal.returns-in-Err-clause-runs

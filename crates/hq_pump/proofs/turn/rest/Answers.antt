@@ -1,10 +1,8 @@
-use Rattle.std.proofs.Common.{◌≡◌, ℕ, ◌+◌, ◌*◌, ◌≤◌, ◌++◌, List, length, take, drop, map, Some, None, subst, sym, ap, ◌∙◌, refl, arith}
-use Rattle.std.specs.Prelude.{slice_get, slice_set}
+use Rattle.std.proofs.Common.{List, map, Some, None, subst, ap, ◌∙◌, arith}
 use Rattle.hq_pump.specs.declared.lane.Lane.{Lane}
-use Rattle.hq_pump.specs.Exchange.{Exchange, Run, still, asked_again}
-use Rattle.hq_pump.specs.Pumping.{at, AreIdle, streams_left, work_left}
-use Rattle.hq_pump.proofs.Steps.{joined, one_step}
-use Rattle.hq_pump.proofs.Turning.{place_read, one_more_lane, idle_more, work_set, set_length, front_read, front_set, front_all, asked_left}
+use Rattle.hq_pump.specs.Exchange.{Run, still, asked_again}
+use Rattle.hq_pump.specs.Pumping.{at, streams_left}
+use Rattle.hq_pump.proofs.Turning.{place_read, one_more_lane, work_set, set_length, asked_left}
 use Rattle.hq_pump.proofs.turn.rest.Goals as goal
 
 pub loop-i-init : goal.loop-i-init

@@ -1,6 +1,6 @@
-use Rattle.std.proofs.Common.{◌≡◌, ℕ, ◌+◌, ◌*◌, ◌≤◌, ◌++◌, List, length, take, drop, map, None}
+use Rattle.std.proofs.Common.{◌≡◌, ℕ, ◌+◌, ◌*◌, ◌≤◌, List, length, map, None}
 use Rattle.hq_pump.specs.Exchange.{Run, asked_again}
-use Rattle.hq_pump.specs.Pumping.{at, AreIdle, work_left}
+use Rattle.hq_pump.specs.Pumping.{at, work_left}
 use Rattle.hq_pump.proofs.turn.rest.Given as goal
 
 abbrev pub invariant-loop-i : goal.invariant-loop-i

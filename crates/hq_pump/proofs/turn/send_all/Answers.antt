@@ -1,10 +1,6 @@
-use Rattle.std.proofs.Common.{◌≡◌, ℕ, ◌+◌, ◌*◌, ◌≤◌, ◌++◌, List, length, take, drop, map, Some, None, subst, sym, ap, ◌∙◌, refl, arith}
-use Rattle.std.specs.Prelude.{slice_get, slice_set}
-use Rattle.hq_pump.specs.declared.lane.Lane.{Lane}
-use Rattle.hq_pump.specs.Exchange.{Exchange, Run, still, asked_again}
-use Rattle.hq_pump.specs.Pumping.{at, AreIdle, work_left}
-use Rattle.hq_pump.proofs.Steps.{joined, one_step}
-use Rattle.hq_pump.proofs.Turning.{place_read, one_more_lane, idle_more, work_set, set_length, done_set, front_read, front_set, front_all, asked_left}
+use Rattle.std.proofs.Common.{Some, None, ◌∙◌, refl, arith}
+use Rattle.hq_pump.specs.Exchange.{still}
+use Rattle.hq_pump.proofs.Turning.{place_read, one_more_lane, idle_more, work_set, set_length, done_set}
 use Rattle.hq_pump.proofs.turn.send_all.Goals as goal
 
 pub loop-i-init : goal.loop-i-init

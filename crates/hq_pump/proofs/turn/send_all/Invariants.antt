@@ -1,5 +1,5 @@
-use Rattle.std.proofs.Common.{◌≡◌, ℕ, ◌+◌, ◌*◌, ◌≤◌, ◌++◌, List, length, take, drop, map, None}
-use Rattle.hq_pump.specs.Exchange.{Run, asked_again}
+use Rattle.std.proofs.Common.{◌≡◌, ℕ, ◌≤◌, List, length, None}
+use Rattle.hq_pump.specs.Exchange.{Run}
 use Rattle.hq_pump.specs.Pumping.{at, all_done, AreIdle, work_left}
 use Rattle.hq_pump.proofs.turn.send_all.Given as goal
 

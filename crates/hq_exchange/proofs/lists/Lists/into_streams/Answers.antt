@@ -1,4 +1,4 @@
-use Rattle.std.proofs.Common.{◌≡◌, ℕ, get_or, ◌∙◌, arith}
+use Rattle.std.proofs.Common.{ℕ, get_or, ◌∙◌, arith}
 use Rattle.std.proofs.lemmas.Option.{slice_get-get_or}
 use Rattle.hq_exchange.specs.Lists.{bytes_at}
 use Rattle.hq_exchange.proofs.Given.{given_more, left_more}
