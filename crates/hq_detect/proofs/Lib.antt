@@ -1,1 +1,2 @@
 pub mod Ups
+pub mod Probing

@@ -1,2 +1,3 @@
 pub mod Assign
 pub mod Planned
+pub mod Probes

@@ -1,55 +1,19 @@
--- One more value of a sum, and of a least or greatest one.
-use Rattle.std.proofs.Common.{ℕ, pos, ◌+◌, ◌+ℤ◌, arith, suc, Bool, true, false, cond, map, length, ◌≡◌, ℤ, List, [], ◌∷◌, ◌++◌, Option, Some, None, refl, sym, ◌∙◌, ap}
-use Rattle.std.specs.List.{list_any}
-use Rattle.std.proofs.lemmas.Int.{ints}
+-- One more row of what an aggregate reads.
+use Rattle.std.proofs.Common.{ℕ, pos, List, [], ◌∷◌, ◌++◌, map, ◌≡◌, ℤ, Option, Some, None, refl, sym, ◌∙◌, ap}
 use Rattle.std.proofs.lemmas.List.{map-append}
 use Rattle.hq_value.specs.declared.value.Value.{Value}
 use Rattle.hq_value.specs.declared.value.Value.TheVariants as value
 use Rattle.hq_value.specs.Order.{value_cmp}
-use Rattle.hq_algebra.specs.declared.expr.Expr.{Expr}
-use Rattle.hq_algebra.specs.declared.expr.Expr.TheVariants as expr
-use Rattle.hq_algebra.specs.declared.aggregate.Aggregate.{Aggregate}
-use Rattle.hq_algebra.specs.declared.aggregate.Aggregate.TheVariants as agg
-use Rattle.hq_algebra.specs.Steps.{is_null}
-use Rattle.hq_algebra.specs.Eval.{value_at}
 use Rattle.hq_meaning.specs.Rows.{Row}
-use Rattle.hq_meaning.specs.Aggregates.{added, argument_faults, one_for, or_zero, aggregate_of, number, from_number, sum_of, plus, sooner, falling_cmp, together, over}
+use Rattle.hq_meaning.specs.Aggregates.{number, from_number, sum_of, plus, sooner, falling_cmp, together, over}
 use Rattle.hq_meaning.proofs.Together.{over-append}
 use Rattle.hq_ops.specs.declared.best.Extreme.{Extreme}
 use Rattle.hq_ops.specs.declared.best.Extreme.TheVariants as extreme
-use Rattle.hq_ops.specs.Folds.{total, first_of, order_of}
-
--- an aggregate of each kind
-abbrev seeks : Extreme → Aggregate
-seeks extreme.Least = agg.Min (expr.Literal value.Null)
-seeks extreme.Greatest = agg.Max (expr.Literal value.Null)
-
-first_of-over : (e : Extreme) (vs : List Value) → first_of (order_of e) vs ≡ over (seeks e) vs
-first_of-over extreme.Least [] = refl
-first_of-over extreme.Least (v ∷ vs) = ap (sooner value_cmp v) (first_of-over extreme.Least vs)
-first_of-over extreme.Greatest [] = refl
-first_of-over extreme.Greatest (v ∷ vs) = ap (sooner falling_cmp v) (first_of-over extreme.Greatest vs)
-
-alone : (e : Extreme) (v : Value) → over (seeks e) (v ∷ []) ≡ v
-alone extreme.Least (value.Bool b) = refl
-alone extreme.Least (value.Int n) = refl
-alone extreme.Least (value.Text s) = refl
-alone extreme.Least value.Null = refl
-alone extreme.Greatest (value.Bool b) = refl
-alone extreme.Greatest (value.Int n) = refl
-alone extreme.Greatest (value.Text s) = refl
-alone extreme.Greatest value.Null = refl
-
-joins : (e : Extreme) (u v : Value) → together (seeks e) u v ≡ sooner (order_of e) u v
-joins extreme.Least u v = refl
-joins extreme.Greatest u v = refl
-
-pub first_of-push : (e : Extreme) (vs : List Value) (v : Value) → first_of (order_of e) (vs ++ v ∷ []) ≡ sooner (order_of e) (first_of (order_of e) vs) v
-first_of-push e vs v = first_of-over e (vs ++ v ∷ []) ∙ over-append (seeks e) vs (v ∷ []) ∙ (λ i. together (seeks e) (sym (first_of-over e vs) i) (alone e v i)) ∙ joins e (first_of (order_of e) vs) v
-
-pub total-over : (vs : List Value) → total vs ≡ over agg.CountAll vs
-total-over [] = refl
-total-over (v ∷ vs) = ap (plus v) (total-over vs)
+use Rattle.hq_ops.specs.declared.column.Column.{Column}
+use Rattle.hq_ops.specs.declared.column.Column.TheVariants as reads_of
+use Rattle.hq_ops.specs.declared.running.Running.TheVariants as running
+use Rattle.hq_ops.specs.Folds.{order_of}
+use Rattle.hq_ops.specs.Columns.{reads, seeks, alike, joins, comes, seen}
 
 pub number-back : (o : Option ℤ) → number (from_number o) ≡ o
 number-back None = refl
@@ -59,74 +23,59 @@ sum-none : (o : Option ℤ) → sum_of o None ≡ o
 sum-none None = refl
 sum-none (Some n) = refl
 
+-- what is no number adds nothing
+pub plus-none : (o : Option ℤ) (v : Value) → number v ≡ None → from_number o ≡ plus (from_number o) v
+plus-none o v h = sym (ap from_number ((λ i. sum_of (number-back o i) (h i)) ∙ sum-none o))
+
+-- a number more
+pub plus-some : (old new : Option ℤ) (v : Value) (n : ℤ) → number v ≡ Some n → new ≡ sum_of old (Some n) → from_number new ≡ plus (from_number old) v
+plus-some old new v n h e = ap from_number (e ∙ (λ i. sum_of (sym (number-back old) i) (sym h i)))
+
+-- the same where what is added is told by its value
+pub plus-told : (old new more : Option ℤ) (v : Value) → new ≡ sum_of old more → from_number more ≡ v → from_number new ≡ plus (from_number old) v
+plus-told old new more v e told = ap from_number (e ∙ (λ i. sum_of (sym (number-back old) i) ((sym (number-back more) ∙ ap number told) i)))
+
 plus-alone : (u v : Value) → plus u (plus v value.Null) ≡ plus u v
 plus-alone u v = ap (λ o. from_number (sum_of (number u) o)) (number-back (sum_of (number v) None) ∙ sum-none (number v))
 
-total-push : (vs : List Value) (v : Value) → total (vs ++ v ∷ []) ≡ plus (total vs) v
-total-push vs v = total-over (vs ++ v ∷ []) ∙ over-append agg.CountAll vs (v ∷ []) ∙ ap (λ u. plus u (plus v value.Null)) (sym (total-over vs)) ∙ plus-alone (total vs) v
+least-alone : (v : Value) → sooner value_cmp v value.Null ≡ v
+least-alone (value.Bool b) = refl
+least-alone (value.Int n) = refl
+least-alone (value.Text s) = refl
+least-alone value.Null = refl
 
-pub sum-step : (vs : List Value) (v : Value) (old new : Option ℤ) → from_number old ≡ total vs → new ≡ sum_of old (number v) → from_number new ≡ total (vs ++ v ∷ [])
-sum-step vs v old new eo en = ap from_number (en ∙ ap (λ o. sum_of o (number v)) (sym (number-back old) ∙ ap number eo)) ∙ sym (total-push vs v)
+greatest-alone : (v : Value) → sooner falling_cmp v value.Null ≡ v
+greatest-alone (value.Bool b) = refl
+greatest-alone (value.Int n) = refl
+greatest-alone (value.Text s) = refl
+greatest-alone value.Null = refl
 
-pub over-count : (e : Expr) (vs : List Value) → over (agg.Count e) vs ≡ total vs
-over-count e [] = refl
-over-count e (v ∷ vs) = ap (plus v) (over-count e vs)
+sought-alone : (x : Extreme) (u v : Value) → together (seeks x) u (together (seeks x) v value.Null) ≡ together (seeks x) u v
+sought-alone extreme.Least u v = ap (sooner value_cmp u) (least-alone v)
+sought-alone extreme.Greatest u v = ap (sooner falling_cmp u) (greatest-alone v)
 
--- one more row of a count
-more_zero : (m : ℤ) (n : ℕ) → m ≡ pos n → m +ℤ pos 1 ≡ pos (n + 1)
-more_zero m n h = omega (arith, ints, h)
+alone : (c : Column) (u v : Value) → joins c u (joins c v value.Null) ≡ joins c u v
+alone reads_of.Rows u v = plus-alone u v
+alone (reads_of.Present e) u v = plus-alone u v
+alone (reads_of.Sum e) u v = plus-alone u v
+alone (reads_of.Best x e) u v = sought-alone x u v
+alone (reads_of.SumAt place) u v = plus-alone u v
+alone (reads_of.HalvesAt place) u v = plus-alone u v
+alone (reads_of.BestAt x place) u v = sought-alone x u v
 
-count-more : (t : Value) (b : Bool) (n : ℕ) → or_zero t ≡ value.Int (pos n) → or_zero (plus t (cond b value.Null (value.Int (pos 1)))) ≡ value.Int (pos (n + cond b 0 1))
-count-more (value.Bool b) c n h = cc
-count-more (value.Text s) c n h = cc
-count-more value.Null true n h = h ∙ ap (λ k. value.Int (pos k)) (omega arith)
-count-more value.Null false n h = let z : pos 0 ≡ pos n = cc in ap value.Int (more_zero (pos 0) n z)
-count-more (value.Int m) true n h = h ∙ ap (λ k. value.Int (pos k)) (omega arith)
-count-more (value.Int m) false n h = let z : m ≡ pos n = cc in ap value.Int (more_zero m n z)
+pub comes-push : (c : Column) (rows : List Row) (r : Row) → comes c (rows ++ r ∷ []) ≡ joins c (comes c rows) (reads c r)
+comes-push c rows r = ap (over (alike c)) (map-append (reads c) rows (r ∷ [])) ∙ over-append (alike c) (map (reads c) rows) (reads c r ∷ []) ∙ alone c (comes c rows) (reads c r)
 
-one_for-test : (x : Value) → one_for x ≡ cond (is_null x) value.Null (value.Int (pos 1))
-one_for-test (value.Bool b) = refl
-one_for-test (value.Int n) = refl
-one_for-test (value.Text s) = refl
-one_for-test value.Null = refl
+pub seen-nothing : (c : Column) → seen c running.Nothing ≡ value.Null
+seen-nothing reads_of.Rows = refl
+seen-nothing (reads_of.Present e) = refl
+seen-nothing (reads_of.Sum e) = refl
+seen-nothing (reads_of.Best x e) = refl
+seen-nothing (reads_of.SumAt place) = refl
+seen-nothing (reads_of.HalvesAt place) = refl
+seen-nothing (reads_of.BestAt x place) = refl
 
-pub count-push : (e : Expr) (rows : List Row) (r : Row) (x : Value) (n : ℕ) → aggregate_of (agg.Count e) rows ≡ value.Int (pos n) → x ≡ value_at e r → aggregate_of (agg.Count e) (rows ++ r ∷ []) ≡ value.Int (pos (n + cond (is_null x) 0 1))
-count-push e rows r x n h same =
-    ap or_zero (over-count e (map (added (agg.Count e)) (rows ++ r ∷ [])) ∙ ap total (map-append (added (agg.Count e)) rows (r ∷ [])) ∙ total-push (map (added (agg.Count e)) rows) (one_for (value_at e r)) ∙ ap (plus (total (map (added (agg.Count e)) rows))) (ap one_for (sym same) ∙ one_for-test x))
-    ∙ count-more (total (map (added (agg.Count e)) rows)) (is_null x) n (ap or_zero (sym (over-count e (map (added (agg.Count e)) rows))) ∙ h)
-
--- a count of rows is their number
-plus-one : (t : Value) (n : ℕ) → or_zero t ≡ value.Int (pos n) → or_zero (plus (value.Int (pos 1)) t) ≡ value.Int (pos (suc n))
-plus-one (value.Bool b) n h = cc
-plus-one (value.Text s) n h = cc
-plus-one value.Null n h = let z : pos 0 ≡ pos n = cc in ap value.Int (omega (arith, ints, z))
-plus-one (value.Int m) n h = let z : m ≡ pos n = cc in ap value.Int (omega (arith, ints, z))
-
-pub count-all : (rows : List Row) → aggregate_of agg.CountAll rows ≡ value.Int (pos (length rows))
-count-all [] = refl
-count-all (r ∷ rows) = plus-one (over agg.CountAll (map (added agg.CountAll) rows)) (length rows) (count-all rows)
-
-pub over-min : (e : Expr) (vs : List Value) → over (agg.Min e) vs ≡ first_of value_cmp vs
-over-min e [] = refl
-over-min e (v ∷ vs) = ap (sooner value_cmp v) (over-min e vs)
-
-pub over-max : (e : Expr) (vs : List Value) → over (agg.Max e) vs ≡ first_of falling_cmp vs
-over-max e [] = refl
-over-max e (v ∷ vs) = ap (sooner falling_cmp v) (over-max e vs)
-
--- counting rows never faults
-pub count-faults : (rows : List Row) → list_any (argument_faults agg.CountAll) rows ≡ false
-count-faults [] = refl
-count-faults (r ∷ rows) = count-faults rows
-
-pub over-count_all : (vs : List Value) → over agg.CountAll vs ≡ total vs
-over-count_all vs = sym (total-over vs)
-
-pub over-sum : (e : Expr) (vs : List Value) → over (agg.Sum e) vs ≡ total vs
-over-sum e [] = refl
-over-sum e (v ∷ vs) = ap (plus v) (over-sum e vs)
-
--- reading a column never faults
-pub column-faults : {X : Type 0} (xs : List X) → list_any (λ (x : X). false) xs ≡ false
-column-faults [] = refl
-column-faults (x ∷ xs) = column-faults xs
+-- the least and the greatest come together by their order
+pub sought : (x : Extreme) (u v : Value) → together (seeks x) u v ≡ sooner (order_of x) u v
+sought extreme.Least u v = refl
+sought extreme.Greatest u v = refl

@@ -16,7 +16,7 @@ use Rattle.hq_meaning.specs.Groups.{key_of, keys_found, members}
 use Rattle.hq_meaning.proofs.Bags.{same_equal, same_self}
 use Rattle.hq_ops.specs.declared.groups.GroupBy.{GroupBy}
 use Rattle.hq_ops.specs.declared.groups.GroupBy.TheVariants as by
-use Rattle.hq_ops.specs.Grouping.{key_by, width_by, the_rows, groups_of, IsGrouping, IsFullGrouping}
+use Rattle.hq_ops.specs.Grouping.{key_by, width_by, the_rows, groups_of, IsGrouping}
 use Rattle.hq_ops.proofs.Firsts.{flip_same, any-firsts, firsts-push, keys-step}
 
 abbrev AllOf : (Row → Type 0) → List Row → Type 0
@@ -90,7 +90,7 @@ none-equal key k (r ∷ rows) h = by (same_row k (key r)) h (none-equal key k ro
     by false e rest = rest e
 
 -- the groups after one more row
-groups-step : (key : Row → Row) (xs : List Row) (x : Row) (olds : List Row) (y : Row) (gs hs : List (List Row)) (index : ℕ) (fresh : Bool) (g d : List Row)
+pub groups-step : (key : Row → Row) (xs : List Row) (x : Row) (olds : List Row) (y : Row) (gs hs : List (List Row)) (index : ℕ) (fresh : Bool) (g d : List Row)
     → olds ≡ firsts (map key xs) → y ≡ key x → gs ≡ map (λ k. members key k xs) (firsts (map key xs))
     → fresh ≡ not (list_any (λ w. pointwise (partial.ghosts).eq y w) olds) → index ≡ position_or_len (λ w. pointwise (partial.ghosts).eq y w) olds
     → hs ≡ cond fresh (gs ++ [] ∷ []) gs → g ≡ get_or hs index d ++ x ∷ []
@@ -140,7 +140,7 @@ pub nil-of : (places : List ℕ) → length places ≡ 0 → (row : Row) → key
 nil-of [] h row = refl
 nil-of (p ∷ places) h row = absurd (omega (arith, h))
 
-key-nil : (by : GroupBy) → width_by by ≡ 0 → (row : Row) → key_by by row ≡ []
+pub key-nil : (by : GroupBy) → width_by by ≡ 0 → (row : Row) → key_by by row ≡ []
 key-nil (by.Columns places) h row = nil-of places.now h row
 key-nil (by.First count) h row = ap (λ n. take n row) h
 
@@ -151,27 +151,7 @@ firsts-nil : (r : Row) (rows : List Row) → firsts (map nil (r ∷ rows)) ≡ [
 firsts-nil r [] = refl
 firsts-nil r (s ∷ rows) = ap (λ l. [] ∷ filter (λ y. not (same_row [] y)) l) (firsts-nil s rows)
 
-found-firsts : (n : ℕ) (key : Row → Row) → (n ≡ 0 → (row : Row) → key row ≡ []) → (rows : List Row) → ((length rows == 0) ≡ true → (n == 0) ≡ false) → keys_found n key rows ≡ firsts (map key rows)
+pub found-firsts : (n : ℕ) (key : Row → Row) → (n ≡ 0 → (row : Row) → key row ≡ []) → (rows : List Row) → ((length rows == 0) ≡ true → (n == 0) ≡ false) → keys_found n key rows ≡ firsts (map key rows)
 found-firsts (suc n) key h rows some = refl
 found-firsts zero key h [] some = let u : true ≡ false = some refl in cc
 found-firsts zero key h (r ∷ rows) some = sym (firsts-nil r rows) ∙ (λ i. firsts (map (λ row. sym (h refl row) i) (r ∷ rows)))
-
--- groups of some row, or by some column, are all
-pub full : (by : GroupBy) (rows keys : List Row) (groups : List (List Row)) → ((length rows == 0) ≡ true → (width_by by == 0) ≡ false) → IsGrouping (key_by by) rows keys groups → IsFullGrouping (width_by by) (key_by by) rows keys groups
-full by rows keys groups some g =
-    let found : keys_found (width_by by) (key_by by) rows ≡ firsts (map (key_by by) rows) = found-firsts (width_by by) (key_by by) (key-nil by) rows some in
-    record {
-      keys_are = g.firsts_are ∙ sym found;
-      groups_are = g.groups_are ∙ ap (map (λ k. members (key_by by) k rows)) (sym found);
-    }
-
--- no row and no key: one group of no row
-pub full-none : (by : GroupBy) (rows keys : List Row) (groups : List (List Row)) → (length rows == 0) ≡ true → (width_by by == 0) ≡ true → keys ≡ [] ∷ [] → groups ≡ [] ∷ [] → IsFullGrouping (width_by by) (key_by by) rows keys groups
-full-none by [] keys groups none h ek eg =
-    let zero_wide : width_by by ≡ 0 = eqb-true (width_by by) 0 h in
-    let found : keys_found (width_by by) (key_by by) [] ≡ [] ∷ [] = ap (λ n. keys_found n (key_by by) []) zero_wide in
-    record {
-      keys_are = ek ∙ sym found;
-      groups_are = eg ∙ ap (map (λ k. members (key_by by) k [])) (sym found);
-    }
-full-none by (r ∷ rows) keys groups none h ek eg = absurd (omega (arith, eqb-true (length (r ∷ rows)) 0 none))

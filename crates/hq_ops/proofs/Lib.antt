@@ -1,8 +1,12 @@
 pub mod Firsts
 pub mod Folds
+pub mod Gathers
+pub mod Grouped
 pub mod Grouping
 pub mod Joining
 pub mod Keys
-pub mod Members
+pub mod Limits
 pub mod Ordered
+pub mod Pipes
 pub mod Steps
+pub mod Tallies

@@ -1,5 +1,6 @@
 -- One more element of a loop over a list.
-use Rattle.std.proofs.Common.{◌≡◌, ℕ, zero, suc, ◌+◌, ◌<◌, Bool, true, false, ◌||◌, List, [], ◌∷◌, ◌++◌, map, take, length, get_or, Result, Err, refl, subst, sym, ◌∙◌, ap, arith}
+use Rattle.std.proofs.Common.{◌≡◌, ℕ, zero, suc, ◌+◌, ◌<◌, Bool, true, false, ◌||◌, List, [], ◌∷◌, ◌++◌, map, take, length, get_or, Result, Ok, Err, refl, subst, sym, ◌∙◌, ap, arith}
+use Rattle.std.specs.Prelude.{OnOk}
 use Rattle.std.specs.Borrow.{Bor}
 use Rattle.std.specs.List.{list_any}
 use Rattle.std.proofs.lemmas.List.{map_more, length-map, get_or-map}
@@ -49,3 +50,16 @@ stops-on T {U} r e f b c h at is same = subst (λ (s : Result U Stop). StopsAt s
     by : (e : Stop) → StopsAt {T = T} (Err e) b → StopsAt {T = U} (Err e) c
     by stop.Numeric at = h at
     by stop.NoMemory at = tt
+
+-- what holds after a step that gave something and met no fault
+pub on-ok : {T : Type 0} (r : Result T Stop) (b : Bool) {A B : Type 0} → StopsAt r b → OnOk r A → (b ≡ false → A → B) → OnOk r B
+on-ok (Ok x) b s a f = f s a
+on-ok (Err e) b s a f = tt
+
+pub ok-on : {T E : Type 0} (r : Result T E) {A B : Type 0} → OnOk r A → (A → B) → OnOk r B
+ok-on (Ok x) a f = f a
+ok-on (Err e) a f = tt
+
+pub none-long : {X : Type 0} (xs : List X) → length xs ≡ 0 → xs ≡ []
+none-long [] e = refl
+none-long (x ∷ xs) e = absurd (omega (arith, e))

@@ -3,7 +3,9 @@
 --     IsNumericAt end faults    Numeric comes where an evaluation faults, and nowhere else
 --     IsGiven end               rows are given, whatever memory there is
 --     StopsAt result faults     the same of a step of an operator
+--     end_of stop, ended result    an end without rows, and that of a step
 use Rattle.std.specs.Prelude.{◌≡◌, Bool, true, false, List, Result, Ok, Err}
+use Rattle.std.specs.Global.{Vec}
 use Rattle.hq_value.specs.declared.value.Value.{Value}
 use Rattle.hq_ops.specs.declared.end.OpEnd.{OpEnd}
 use Rattle.hq_ops.specs.declared.end.OpEnd.TheVariants as end
@@ -32,3 +34,13 @@ abbrev pub StopsAt : {T : Type 0} → Result T Stop → Bool → Type 0
 StopsAt (Ok x) faults = faults ≡ false
 StopsAt (Err stop.Numeric) faults = faults ≡ true
 StopsAt (Err stop.NoMemory) faults = Unit {0}
+
+-- an end without rows
+abbrev pub end_of : Stop → OpEnd
+end_of stop.Numeric = end.Numeric
+end_of stop.NoMemory = end.NoMemory
+
+-- the end of a step that gave rows, or of one that stopped
+abbrev pub ended : Result (Vec (List Value)) Stop → OpEnd
+ended (Ok found) = end.Rows found
+ended (Err why) = end_of why

@@ -2,7 +2,6 @@
 --     key_by by row, width_by by         the key of a row, and how many columns it has
 --     the_rows refs, groups_of vecs      the rows to which references point, and those of each group
 --     IsGrouping key rows keys groups    the keys by first appearance, and the rows of each
---     IsFullGrouping count key ..        the same, with one group without keys also over no row
 use Rattle.std.specs.Prelude.{◌≡◌, ℕ, Bool, List, length, map, take}
 use Rattle.std.specs.List.{list_any}
 use Rattle.std.specs.Borrow.{Bor}
@@ -10,7 +9,7 @@ use Rattle.std.specs.Global.{Vec}
 use Rattle.hq_value.specs.declared.value.Value.{Value}
 use Rattle.hq_algebra.specs.Steps.{is_null}
 use Rattle.hq_meaning.specs.Rows.{Row, firsts}
-use Rattle.hq_meaning.specs.Groups.{key_of, keys_found, members}
+use Rattle.hq_meaning.specs.Groups.{key_of, members}
 use Rattle.hq_ops.specs.declared.groups.GroupBy.{GroupBy}
 use Rattle.hq_ops.specs.declared.groups.GroupBy.TheVariants as by
 
@@ -35,11 +34,6 @@ groups_of groups = map (λ g. the_rows g.items) groups
 pub record IsGrouping (key : Row → Row) (rows keys : List Row) (groups : List (List Row)) : Type 0 where
   pub firsts_are : keys ≡ firsts (map key rows)
   pub groups_are : groups ≡ map (λ k. members key k rows) (firsts (map key rows))
-
--- the same, with one group without keys also over no row
-pub record IsFullGrouping (count : ℕ) (key : Row → Row) (rows keys : List Row) (groups : List (List Row)) : Type 0 where
-  pub keys_are : keys ≡ keys_found count key rows
-  pub groups_are : groups ≡ map (λ k. members key k rows) (keys_found count key rows)
 
 abbrev pub has_null : Row → Bool
 has_null key = list_any is_null key

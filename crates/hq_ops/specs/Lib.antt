@@ -1,6 +1,14 @@
+pub mod Beginnings
+pub mod Columns
 pub mod Ends
 pub mod Folds
+pub mod Gathering
+pub mod Grouped
 pub mod Grouping
 pub mod Keyed
 pub mod Parts
-pub mod Sources
+pub mod Pipes
+pub mod Runnings
+pub mod Sorts
+pub mod Taking
+pub mod Works

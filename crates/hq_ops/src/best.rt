@@ -1,15 +1,9 @@
 //! The least and the greatest of values.
-ghost use Rattle.std.specs.Prelude.{◌≡◌, IfOk, map};
-ghost use Rattle.std.specs.List.{list_any};
-ghost use Rattle.hq_meaning.specs.Aggregates.{sooner, falling_cmp};
-ghost use Rattle.hq_ops.specs.Ends.{StopsAt};
-ghost use Rattle.hq_ops.specs.Folds.{first_of, order_of};
-ghost use Rattle.hq_ops.specs.Grouping.{the_rows};
-ghost use Rattle.hq_ops.specs.Sources.{read_by, faults_by};
+ghost use Rattle.std.specs.Prelude.{◌≡◌};
+ghost use Rattle.hq_meaning.specs.Aggregates.{falling_cmp};
+ghost use Rattle.hq_ops.specs.Folds.{order_of};
 
-use crate::end::Stop;
-use crate::source::Source;
-use hq_value::{Row, Value, compare_values};
+use hq_value::{Value, compare_values};
 use std::cmp::Ordering;
 
 /// Which value is sought.
@@ -20,13 +14,8 @@ pub enum Extreme {
 }
 
 impl Extreme {
-    fn sooner(self, a: Value, b: Value) -> Value
-        ensures { result ≡ sooner (order_of self) a b }
-    {
-        if self.compare(&a, &b).is_gt() { b } else { a }
-    }
-
-    fn compare(self, a: &Value, b: &Value) -> Ordering
+    /// The order in which the value that is sought comes first.
+    pub fn compare(self, a: &Value, b: &Value) -> Ordering
         ensures { result ≡ order_of self a.now b.now }
     {
         match self {
@@ -46,17 +35,4 @@ fn compare_falling(a: &Value, b: &Value) -> Ordering
         (_, Value::Null) => Ordering::Less,
         _ => compare_values(b, a),
     }
-}
-
-/// The least or the greatest of what is read of rows, NULL where nothing else is.
-pub fn best(extreme: Extreme, source: &Source, rows: &[&Row]) -> Result<Value, Stop>
-    ensures best { IfOk result (λ best. best ≡ first_of (order_of extreme) (map (read_by source.now) (the_rows rows.now))) }
-    ensures numeric { StopsAt result (list_any (faults_by source.now) (the_rows rows.now)) }
-{
-    let mut best = Value::Null;
-    for row in rows {
-        let value = source.read(row)?;
-        best = extreme.sooner(best, value);
-    }
-    Ok(best)
 }

@@ -1,5 +1,6 @@
 //! How an operator ends.
 ghost use Rattle.std.specs.Prelude.{◌≡◌};
+ghost use Rattle.hq_ops.specs.Ends.{end_of};
 
 use hq_value::{NoMemory as OutOfMemory, Row};
 use std::alloc::{AllocError, AllocFailed};
@@ -24,18 +25,29 @@ pub enum Stop {
 impl OpEnd {
     ghost use Rattle.std.specs.Prelude.{◌≡◌, Bool, List, IfOk};
     ghost use Rattle.hq_value.specs.declared.value.Value.{Value};
-    ghost use Rattle.hq_ops.specs.Ends.{Gives, IsNumericAt, StopsAt};
+    ghost use Rattle.hq_ops.specs.Ends.{Gives, IsNumericAt, StopsAt, ended};
 
     /// The rows, or why there are none.
     pub(crate) fn of(rows: Result<Vec<Row>, Stop>) -> OpEnd
         ensures rows { (wanted : List (List Value)) → IfOk rows (λ found. found.items ≡ wanted) → Gives result wanted }
         ensures numeric { (faults : Bool) → StopsAt rows faults → IsNumericAt result faults }
+        ensures is { result ≡ ended rows }
     {
         match rows {
             Ok(rows) => OpEnd::Rows(rows),
             Err(Stop::Numeric) => OpEnd::Numeric,
             Err(Stop::NoMemory) => OpEnd::NoMemory,
         }
+    }
+}
+
+/// The end of an operator that stops.
+pub fn end_of(stop: Stop) -> OpEnd
+    ensures { result ≡ end_of stop }
+{
+    match stop {
+        Stop::Numeric => OpEnd::Numeric,
+        Stop::NoMemory => OpEnd::NoMemory,
     }
 }
 

@@ -15,9 +15,16 @@ pub fn filter_rows(_alloc: Global, cond: &Expr, rows: Vec<Row>) -> OpEnd
     ensures numeric { IsNumericAt result false }
     ensures given { IsGiven result }
 {
+    OpEnd::Rows(keep(cond, rows))
+}
+
+/// The rows at which the condition is true, in order.
+pub fn keep(cond: &Expr, rows: Vec<Row>) -> Vec<Row>
+    ensures { result.items ≡ filtered cond.now rows.items }
+{
     let mut rows = rows;
     rows.retain(|row| is_true(cond, row));
-    OpEnd::Rows(rows)
+    rows
 }
 
 fn is_true(cond: &Expr, row: &Row) -> bool

@@ -1,8 +1,8 @@
 //! Rows grouped by a key.
-ghost use Rattle.std.specs.Prelude.{◌≡◌, ◌==◌, [], ◌∷◌, IfOk, take};
+ghost use Rattle.std.specs.Prelude.{◌≡◌, ◌==◌, IfOk, take};
 ghost use Rattle.hq_algebra.specs.Eval.{column};
 ghost use Rattle.hq_meaning.specs.Groups.{key_of};
-ghost use Rattle.hq_ops.specs.Grouping.{key_by, width_by, groups_of, IsGrouping, IsFullGrouping};
+ghost use Rattle.hq_ops.specs.Grouping.{key_by, width_by, groups_of, IsGrouping};
 
 use hq_value::{NoMemory, Row, Value};
 use indexmap::IndexSet;
@@ -57,7 +57,8 @@ fn first_values(alloc: Global, count: u16, row: &Row) -> Result<Row, NoMemory>
 }
 
 impl GroupBy<'_> {
-    fn key(&self, alloc: Global, row: &Row) -> Result<Row, NoMemory>
+    /// The key of a row.
+    pub fn key(&self, alloc: Global, row: &Row) -> Result<Row, NoMemory>
         ensures { IfOk result (λ key. key ≡ key_by self.now row.now) }
     {
         match self {
@@ -66,8 +67,8 @@ impl GroupBy<'_> {
         }
     }
 
-    // The keys have no column.
-    fn is_empty(&self) -> bool
+    /// The keys have no column.
+    pub fn is_empty(&self) -> bool
         ensures { result ≡ (width_by self.now == 0) }
     {
         match self {
@@ -92,26 +93,4 @@ pub fn group<'a>(alloc: Global, by: &GroupBy, rows: &'a [Row]) -> Result<Groups<
         group.push(row)?;
     }
     Ok(Groups { keys, rows: groups })
-}
-
-/// Groups rows. Without keys there is one group, also over no row.
-pub fn group_all<'a>(alloc: Global, by: &GroupBy, rows: &'a [Row]) -> Result<Groups<'a>, NoMemory>
-    ensures { IfOk result (λ found. IsFullGrouping (width_by by.now) (key_by by.now) rows.now found.keys.keys (groups_of found.rows.items)) }
-{
-    if rows.is_empty() && by.is_empty() {
-        return one_group(alloc);
-    }
-    group(alloc, by, rows)
-}
-
-// One group without keys or rows.
-fn one_group<'a>(alloc: Global) -> Result<Groups<'a>, NoMemory>
-    ensures keys { IfOk result (λ found. found.keys.keys ≡ [] ∷ []) }
-    ensures rows { IfOk result (λ found. groups_of found.rows.items ≡ [] ∷ []) }
-{
-    let mut keys = IndexSet::new(alloc);
-    keys.insert(Row::new(alloc))?;
-    let mut rows = Vec::new(alloc);
-    rows.push(Vec::new(alloc))?;
-    Ok(Groups { keys, rows })
 }

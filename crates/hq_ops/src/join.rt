@@ -46,9 +46,22 @@ fn join(
     ensures { IfOk result (λ found. found.items ≡ joined left_keys.now right_keys.now left.now right.now) }
 {
     let groups = group(alloc, &GroupBy::Columns(right_keys), right)?;
+    join_groups(alloc, left, left_keys, &groups)
+}
+
+/// The pairs of left rows, where the right rows are grouped by their keys.
+pub fn join_groups(
+    alloc: Global,
+    left: &[Row],
+    keys: &[u16],
+    groups: &Groups,
+) -> Result<Vec<Row>, NoMemory>
+    ensures { (right_keys : List ℕ) (right : List (List Datum)) → IsGrouping (key_of right_keys) right groups.now.keys.keys (groups_of groups.now.rows.items) →
+        IfOk result (λ found. found.items ≡ joined keys.now right_keys left.now right) }
+{
     let mut found = Vec::new(alloc);
     for row in left {
-        push_pairs(alloc, row, left_keys, &groups, &mut found)?;
+        push_pairs(alloc, row, keys, groups, &mut found)?;
     }
     Ok(found)
 }

@@ -1,21 +1,28 @@
 //! The operators of a plan over rows in memory.
 #![tactic(auto)]
 
+mod begin;
 mod best;
-mod columns;
-mod count;
+mod column;
 mod distinct;
 mod end;
 mod filter;
 mod finals;
+mod gathered;
+mod gathering;
 mod groups;
 mod halves;
 mod join;
 mod partial;
+mod parts;
+mod pipe;
 mod project;
+mod rest;
+mod running;
 mod sort;
-mod source;
-mod sum;
+mod take;
+mod total;
+mod work;
 
 pub use distinct::distinct_rows;
 pub use end::OpEnd;
@@ -23,5 +30,6 @@ pub use filter::filter_rows;
 pub use finals::final_rows;
 pub use join::join_rows;
 pub use partial::partial_rows;
+pub use pipe::Pipe;
 pub use project::project_rows;
 pub use sort::sort_rows;

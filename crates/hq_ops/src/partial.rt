@@ -1,18 +1,18 @@
 //! Partial aggregates.
-ghost use Rattle.std.specs.Prelude.{◌≡◌, ◌++◌, ◌^◌, ◌<◌, IfOk, length, map, flat_map};
-ghost use Rattle.std.specs.List.{list_any};
-ghost use Rattle.hq_meaning.specs.Aggregates.{added, over, argument_faults};
-ghost use Rattle.hq_meaning.specs.Operators.{columns_of, partial_faults};
+ghost use Rattle.std.specs.Prelude.{◌≡◌, ◌∷◌, [], IfOk, map};
+ghost use Rattle.hq_meaning.specs.Operators.{partial_faults};
 ghost use Rattle.hq_meaning.specs.Operators as spec;
 ghost use Rattle.hq_ops.specs.Ends.{Gives, IsNumericAt, StopsAt};
-ghost use Rattle.hq_ops.specs.Grouping.{the_rows};
+ghost use Rattle.hq_ops.specs.Grouped.{ArePartial, IsPartial};
 
 use crate::OpEnd;
-use crate::columns::columns;
+use crate::best::Extreme;
+use crate::column::Column;
 use crate::end::Stop;
-use crate::groups::{GroupBy, group_all};
+use crate::gathering::{finished, gather, nothing_gathered};
+use crate::groups::GroupBy;
 use hq_algebra::{Aggregate, Aggregates, Keys16};
-use hq_value::Row;
+use hq_value::{NoMemory, Row};
 use std::alloc::Global;
 
 /// Groups by keys, by first appearance, NULLs being equal: the keys and the columns of each aggregate. Without keys
@@ -35,30 +35,35 @@ fn partial(
     ensures rows { IfOk result (λ found. found.items ≡ spec.partial places.now aggregates.now rows.now) }
     ensures numeric { StopsAt result (partial_faults aggregates.now rows.now) }
 {
-    let groups = group_all(alloc, &GroupBy::Columns(places), rows)?;
-    let keys = groups.keys.as_slice();
-    let mut found = Vec::with_capacity(alloc, groups.rows.len())?;
-    for (index, members) in groups.rows.iter().enumerate() {
-        let row = partial_row(alloc, &keys[index], aggregates, members)?;
-        found.push(row)?;
-    }
-    Ok(found)
+    let by = GroupBy::Columns(places);
+    let columns = partial_columns(alloc, aggregates)?;
+    let nothing = nothing_gathered(alloc, &columns)?;
+    let gathered = gather(alloc, &by, nothing, rows)?;
+    finished(alloc, &by, &gathered)
 }
 
-// The key of a group and the columns of each aggregate over its rows.
-fn partial_row(
+/// What partial aggregates read.
+pub fn partial_columns<'a>(
     alloc: Global,
-    key: &Row,
-    aggregates: &[Aggregate],
-    rows: &Vec<&Row>,
-) -> Result<Row, Stop>
-    ensures row { IfOk result (λ row. row ≡ key.now ++ flat_map (λ a. columns_of a (over a (map (added a) (the_rows rows.now.items)))) aggregates.now) }
-    ensures numeric { StopsAt result (list_any (λ a. list_any (argument_faults a) (the_rows rows.now.items)) aggregates.now) }
+    aggregates: &'a [Aggregate],
+) -> Result<Vec<Column<'a>>, NoMemory>
+    ensures { IfOk result (λ columns. ArePartial aggregates.now columns.items) }
 {
-    let mut values = key.copy(alloc)?;
+    let mut columns = Vec::with_capacity(alloc, aggregates.len())?;
     for aggregate in aggregates {
-        let columns = columns(aggregate, rows.as_slice())?;
-        columns.push_to(&mut values)?;
+        columns.push(partial_column(aggregate))?;
     }
-    Ok(values)
+    Ok(columns)
+}
+
+fn partial_column(aggregate: &Aggregate) -> Column<'_>
+    ensures { IsPartial aggregate.now result }
+{
+    match aggregate {
+        Aggregate::CountAll => Column::Rows,
+        Aggregate::Count(e) => Column::Present(e),
+        Aggregate::Sum(e) => Column::Sum(e),
+        Aggregate::Min(e) => Column::Best(Extreme::Least, e),
+        Aggregate::Max(e) => Column::Best(Extreme::Greatest, e),
+    }
 }

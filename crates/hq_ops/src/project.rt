@@ -19,7 +19,8 @@ pub fn project_rows(alloc: Global, items: &Exprs, rows: &[Row]) -> OpEnd
     OpEnd::of(project(alloc, items.as_slice(), rows))
 }
 
-fn project(alloc: Global, items: &[Expr], rows: &[Row]) -> Result<Vec<Row>, Stop>
+/// The values of the items over each row, in order.
+pub fn project(alloc: Global, items: &[Expr], rows: &[Row]) -> Result<Vec<Row>, Stop>
     ensures rows { IfOk result (λ found. found.items ≡ projected items.now rows.now) }
     ensures numeric { StopsAt result (project_faults items.now rows.now) }
 {

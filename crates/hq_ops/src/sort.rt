@@ -1,10 +1,11 @@
 //! Rows in order.
-ghost use Rattle.std.specs.Prelude.{◌≡◌, ◌∷◌, false, map, IfOk};
+ghost use Rattle.std.specs.Prelude.{◌≡◌, ◌∷◌, Some, false, map, take, IfOk};
 ghost use Rattle.hq_value.specs.Order.{value_cmp};
 ghost use Rattle.hq_algebra.specs.Eval.{column};
-ghost use Rattle.hq_meaning.specs.Rows.{key_cmp, order_cmp, ordered};
+ghost use Rattle.hq_meaning.specs.Rows.{key_cmp, order_cmp, ordered, limited};
 ghost use Rattle.hq_meaning.specs.Operators.{sorted};
 ghost use Rattle.hq_ops.specs.Ends.{Gives, IsNumericAt};
+ghost use Rattle.hq_ops.specs.Sorts.{StandFor};
 ghost use Rattle.hq_ops.specs.Keyed.{with_key, first_cmp, keyed_cmp};
 
 use crate::OpEnd;
@@ -27,16 +28,71 @@ pub fn sort_rows(alloc: Global, order: &SortKeys, limit: Option<u64>, rows: Vec<
     ensures rows { Gives result (sorted order.now limit rows.items) }
     ensures numeric { IsNumericAt result false }
 {
-    match sort(alloc, order.as_slice(), rows) {
-        Ok(rows) => {
-            let mut rows = rows;
-            if let Some(limit) = limit {
-                rows.truncate(limit as usize);
-            }
-            OpEnd::Rows(rows)
-        }
+    match sort_to(alloc, order.as_slice(), limit, rows) {
+        Ok(rows) => OpEnd::Rows(rows),
         Err(_) => OpEnd::NoMemory,
     }
+}
+
+/// The rows by the keys; where there is a limit, so many of the first.
+pub fn sort_to(
+    alloc: Global,
+    order: &[SortKey],
+    limit: Option<u64>,
+    rows: Vec<Row>,
+) -> Result<Vec<Row>, NoMemory>
+    ensures { IfOk result (λ found. found.items ≡ sorted order.now limit rows.items) }
+{
+    let rows = sort(alloc, order, rows)?;
+    Ok(limited(limit, rows))
+}
+
+/// Rows that stand for these in a sort, whatever comes behind them: all, or where there is a limit and they are many,
+/// so many of the first.
+pub fn shortened(
+    alloc: Global,
+    order: &[SortKey],
+    limit: Option<u64>,
+    rows: Vec<Row>,
+) -> Result<Vec<Row>, NoMemory>
+    ensures { IfOk result (λ short. StandFor order.now limit short.items rows.items) }
+{
+    match limit {
+        Some(limit) => shortened_to(alloc, order, limit, rows),
+        None => Ok(rows),
+    }
+}
+
+// As many rows again are kept as can be given, and some more, so that they are seldom sorted.
+fn shortened_to(
+    alloc: Global,
+    order: &[SortKey],
+    limit: u64,
+    rows: Vec<Row>,
+) -> Result<Vec<Row>, NoMemory>
+    ensures { IfOk result (λ short. StandFor order.now (Some limit) short.items rows.items) }
+{
+    if rows.len() / 2 <= (limit as usize).saturating_add(1_024) {
+        return Ok(rows);
+    }
+    sort_to(alloc, order, Some(limit), rows)
+}
+
+fn limited(limit: Option<u64>, rows: Vec<Row>) -> Vec<Row>
+    ensures { result.items ≡ limited limit rows.items }
+{
+    match limit {
+        Some(limit) => first(limit as usize, rows),
+        None => rows,
+    }
+}
+
+fn first(count: usize, rows: Vec<Row>) -> Vec<Row>
+    ensures { result.items ≡ take count rows.items }
+{
+    let mut rows = rows;
+    rows.truncate(count);
+    rows
 }
 
 fn sort(alloc: Global, order: &[SortKey], rows: Vec<Row>) -> Result<Vec<Row>, NoMemory>

@@ -1,5 +1,7 @@
-use Rattle.hq_ops.proofs.Firsts.{keys-step}
+use Rattle.std.proofs.Common.{◌≡◌, ◌∙◌, []}
+use Rattle.std.proofs.lemmas.Result.{IfOk-weaker}
+use Rattle.hq_ops.proofs.Steps.{none-long}
 use Rattle.hq_ops.proofs.distinct.firsts.Goals as goal
 
-pub loop-row-preserved : goal.loop-row-preserved
-loop-row-preserved c = keys-step c.loop-row.yielded c.loop-row.seen.keys c.insert.new.self.keys c.in-Some.row c.loop-row.invariant c.in_ok-insert.ensures.keys
+pub returns : goal.returns
+returns c = IfOk-weaker c.collected.result _ _ (λ found e. e ∙ c.in_ok-seen.ensures [] (none-long _ c.new.ensures.len)) c.collected.ensures

@@ -1,54 +1,37 @@
-use Rattle.std.proofs.Common.{◌≡◌, ◌∙◌, ◌++◌, sym, ap, arith, List, length, map, flat_map}
+use Rattle.std.proofs.Common.{◌≡◌, ◌∙◌, Bool, List, [], sym, ap, subst}
+use Rattle.std.proofs.lemmas.Result.{IfOk-weaker}
+use Rattle.hq_ops.specs.declared.column.Column.{Column}
+use Rattle.hq_ops.specs.Ends.{StopsAt}
+use Rattle.hq_ops.specs.Grouped.{ArePartial}
+use Rattle.hq_ops.proofs.Grouped.{partial-is, partial-faults-are, partial-leaves-never}
 use Rattle.std.specs.List.{list_any}
-use Rattle.std.proofs.lemmas.List.{take_all}
 use Rattle.std.proofs.lemmas.Result.{err_from_is_err_and}
-use Rattle.hq_value.specs.declared.value.Value.{Value as Datum}
-use Rattle.hq_meaning.specs.Rows.{Row}
-use Rattle.hq_meaning.specs.Aggregates.{added, over, argument_faults}
-use Rattle.hq_meaning.specs.Groups.{key_of, group_keys, members}
-use Rattle.hq_meaning.specs.Operators as spec
-use Rattle.hq_ops.specs.Grouping.{the_rows, groups_of}
-use Rattle.hq_ops.proofs.Members.{IsGroupAt, group_at, all-groups, faults-in-groups}
-use Rattle.hq_ops.proofs.Steps.{map-step, any-step, any-at, stops-on}
+use Rattle.hq_ops.specs.declared.groups.GroupBy.TheVariants as by
+use Rattle.hq_ops.specs.Gathering.{row_faults}
+use Rattle.hq_ops.specs.declared.gathered.Gathered.{Gathered}
+use Rattle.hq_ops.proofs.Steps.{stops-on}
 use Rattle.hq_ops.proofs.partial.partial.Goals as goal
-
-pub returns-in_err-row-clause-numeric : goal.returns-in_err-row-clause-numeric
-returns-in_err-row-clause-numeric c =
-    let M = λ (k : Row). members (key_of c.args.places.now) k c.args.rows.now in
-    let K = group_keys c.args.places.now c.args.rows.now in
-    let faults = λ (rows : List Row). list_any (λ a. list_any (argument_faults a) rows) c.args.aggregates.now in
-    let g : IsGroupAt M K c.loop-index.index c.index-keys-index.result (the_rows c.members-item.result.items) =
-    group_at M K c.as_slice-keys.result.now c.deref-members-items.result.now c.loop-index.index c.members-item.result c.index-keys-index.result
-    (c.as_slice-keys.ensures.keys ∙ c.in_ok-groups.ensures.keys_are) (ap groups_of c.deref-members-items.ensures.value ∙ c.in_ok-groups.ensures.groups_are) c.loop-index-test.true c.members-item.is c.index-keys-index.is in
-    let p = err_from_is_err_and c.from_residual-in_err-row.result c.from_residual-in_err-row.ensures.1 in
-    stops-on (List Datum) c.from_residual-in_err-row.result c.in_err-row.field-0.0 p.0 _ _
-    (λ h. faults-in-groups c.args.places.now c.args.aggregates.now c.args.rows.now ∙ any-at (λ k. faults (M k)) K c.loop-index.index c.index-keys-index.result g.low g.at (ap faults (sym g.rows_are) ∙ h)) c.in_err-row.ensures.numeric p.1 p.2
-
-pub loop-index-preserved : goal.loop-index-preserved
-loop-index-preserved c =
-    let M = λ (k : Row). members (key_of c.args.places.now) k c.args.rows.now in
-    let K = group_keys c.args.places.now c.args.rows.now in
-    let faults = λ (rows : List Row). list_any (λ a. list_any (argument_faults a) rows) c.args.aggregates.now in
-    let g : IsGroupAt M K c.loop-index.index c.index-keys-index.result (the_rows c.members-item.result.items) =
-    group_at M K c.as_slice-keys.result.now c.deref-members-items.result.now c.loop-index.index c.members-item.result c.index-keys-index.result
-    (c.as_slice-keys.ensures.keys ∙ c.in_ok-groups.ensures.keys_are) (ap groups_of c.deref-members-items.ensures.value ∙ c.in_ok-groups.ensures.groups_are) c.loop-index-test.true c.members-item.is c.index-keys-index.is in
-    record {
-      found =
-          map-step (spec.partial_row c.args.places.now c.args.aggregates.now c.args.rows.now) K c.loop-index.index c.index-keys-index.result c.loop-index.found.items c.push.new.self.items c.in_ok-row.row g.low g.at c.loop-index.invariant.found
-          (c.in_ok-row.ensures.row ∙ ap (λ rows. c.index-keys-index.result ++ flat_map (λ a. spec.columns_of a (over a (map (added a) rows))) c.args.aggregates.now) g.rows_are) c.in_ok-push.ensures.items;
-      none = any-step (λ k. faults (M k)) K c.loop-index.index c.index-keys-index.result g.low g.at c.loop-index.invariant.none (ap faults (sym g.rows_are) ∙ c.in_ok-row.ensures.numeric);
-    }
 
 pub returns-clause-rows : goal.returns-clause-rows
 returns-clause-rows c =
-    let M = λ (k : Row). members (key_of c.args.places.now) k c.args.rows.now in
-    let K = group_keys c.args.places.now c.args.rows.now in
-    let all : length c.deref-members-items.result.now ≡ length K = all-groups M K c.deref-members-items.result.now (ap groups_of c.deref-members-items.ensures.value ∙ c.in_ok-groups.ensures.groups_are) in
-    c.loop-index.invariant.found ∙ ap (map (spec.partial_row c.args.places.now c.args.aggregates.now c.args.rows.now)) (take_all c.loop-index.index K (omega (arith, all)))
+    let columns = c.deref.result.now in
+    let are = subst (λ (cs : List Column). ArePartial c.args.aggregates.now cs) (sym c.deref.ensures.value) c.in_ok-columns.ensures in
+    let gathered = c.in_ok-gathered.ensures.gathered columns [] (c.in_ok-nothing.ensures _) in
+    IfOk-weaker c.finished.result _ _ (λ found e. e ∙ partial-is c.args.places c.args.aggregates.now columns c.args.rows.now are) (c.finished.ensures.rows columns c.args.rows.now gathered)
 
 pub returns-clause-numeric : goal.returns-clause-numeric
 returns-clause-numeric c =
-    let M = λ (k : Row). members (key_of c.args.places.now) k c.args.rows.now in
-    let K = group_keys c.args.places.now c.args.rows.now in
-    let all : length c.deref-members-items.result.now ≡ length K = all-groups M K c.deref-members-items.result.now (ap groups_of c.deref-members-items.ensures.value ∙ c.in_ok-groups.ensures.groups_are) in
-    faults-in-groups c.args.places.now c.args.aggregates.now c.args.rows.now ∙ ap (list_any (λ k. list_any (λ a. list_any (argument_faults a) (M k)) c.args.aggregates.now)) (sym (take_all c.loop-index.index K (omega (arith, all)))) ∙ c.loop-index.invariant.none
+    let columns = c.deref.result.now in
+    let are = subst (λ (cs : List Column). ArePartial c.args.aggregates.now cs) (sym c.deref.ensures.value) c.in_ok-columns.ensures in
+    let gathered = c.in_ok-gathered.ensures.gathered columns [] (c.in_ok-nothing.ensures _) in
+    subst (λ (b : Bool). StopsAt c.finished.result b)
+    (partial-leaves-never c.args.places c.args.aggregates.now columns c.args.rows.now are ∙ sym gathered.no_fault ∙ partial-faults-are c.args.aggregates.now columns c.args.rows.now are)
+    (c.finished.ensures.numeric columns c.args.rows.now gathered)
+
+pub returns-in_err-gathered-clause-numeric : goal.returns-in_err-gathered-clause-numeric
+returns-in_err-gathered-clause-numeric c =
+    let are = subst (λ (cs : List Column). ArePartial c.args.aggregates.now cs) (sym c.deref.ensures.value) c.in_ok-columns.ensures in
+    let nothing = c.in_ok-nothing.ensures (by.Columns c.args.places) in
+    let p = err_from_is_err_and c.from_residual-in_err-gathered.result c.from_residual-in_err-gathered.ensures.1 in
+    stops-on Gathered c.from_residual-in_err-gathered.result c.in_err-gathered.field-0.0 p.0 _ _
+    (λ h. sym (partial-faults-are c.args.aggregates.now c.deref.result.now c.args.rows.now are) ∙ ap (λ cs. list_any (row_faults cs) c.args.rows.now) (sym nothing.columns_are) ∙ h) c.in_err-gathered.ensures.numeric p.1 p.2

@@ -1,0 +1,8 @@
+use Rattle.std.proofs.Common.{◌≡◌, ap}
+use Rattle.std.proofs.lemmas.Result.{err_from_is_err_and}
+use Rattle.hq_ops.proofs.Pipes.{took-project, project-fault}
+use Rattle.hq_ops.proofs.take.take_project.Goals as goal
+
+pub returns : goal.returns
+returns c op build pushed given h = took-project op build pushed given c.args.rows.items c.in_ok-found.found.items c.args.items h
+    (rw c.deref.ensures.value at (rw c.as_slice.ensures at c.in_ok-found.ensures.rows)) (rw c.deref.ensures.value at (rw c.as_slice.ensures at c.in_ok-found.ensures.numeric))
