@@ -42,7 +42,7 @@ unfolding digits
 inserted = refl
 
 -- a script's replies; the blank piece has none
-a_transaction : replies_text (Some reply.Created ∷ None ∷ Some reply.Begun ∷ Some reply.Committed ∷ Some reply.RolledBack ∷ []) ≡ codes "CREATE TABLE\nBEGIN\nCOMMIT\nROLLBACK\n"
+a_transaction : replies_text (Some reply.Created ∷ Some reply.Altered ∷ None ∷ Some reply.Begun ∷ Some reply.Committed ∷ Some reply.RolledBack ∷ []) ≡ codes "CREATE TABLE\nALTER TABLE\nBEGIN\nCOMMIT\nROLLBACK\n"
 a_transaction = refl
 
 -- replies that are refusals

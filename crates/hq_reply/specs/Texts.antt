@@ -89,6 +89,7 @@ abbrev pub reply_text : Reply → List ℕ
 reply_text (reply.Rows rows) = rows_text rows
 reply_text (reply.Inserted count) = line (codes "INSERT " ++ decimal count)
 reply_text reply.Created = line (codes "CREATE TABLE")
+reply_text reply.Altered = line (codes "ALTER TABLE")
 reply_text reply.Begun = line (codes "BEGIN")
 reply_text reply.Committed = line (codes "COMMIT")
 reply_text reply.RolledBack = line (codes "ROLLBACK")

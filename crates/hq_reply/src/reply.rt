@@ -14,6 +14,8 @@ pub enum Reply {
     Inserted(u64),
     /// A table was made.
     Created,
+    /// A column was added to a table.
+    Altered,
     /// A transaction began.
     Begun,
     /// A transaction was committed.

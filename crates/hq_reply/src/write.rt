@@ -72,6 +72,7 @@ fn put_reply<K: Sink>(reply: &Reply, buffer: &mut Buffer, sink: &mut K) -> Resul
         Reply::Rows(rows) => put_query(rows, buffer, sink),
         Reply::Inserted(count) => put_counted(b"INSERT ", *count, buffer, sink),
         Reply::Created => buffer.put(b"CREATE TABLE\n", sink),
+        Reply::Altered => buffer.put(b"ALTER TABLE\n", sink),
         Reply::Begun => buffer.put(b"BEGIN\n", sink),
         Reply::Committed => buffer.put(b"COMMIT\n", sink),
         Reply::RolledBack => buffer.put(b"ROLLBACK\n", sink),

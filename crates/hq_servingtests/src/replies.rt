@@ -113,6 +113,7 @@ impl Case {
         Ok(match word {
             "inserted" => Some(Reply::Inserted(rest.parse()?)),
             "created" => Some(Reply::Created),
+            "altered" => Some(Reply::Altered),
             "begun" => Some(Reply::Begun),
             "committed" => Some(Reply::Committed),
             "rolled_back" => Some(Reply::RolledBack),

@@ -1,0 +1,16 @@
+pub mod Binding
+pub mod Binds
+pub mod Examples
+pub mod History
+pub mod Looks
+pub mod Pieces
+pub mod Reaching
+pub mod Reading
+pub mod Same
+pub mod Scripts
+pub mod Serves
+pub mod Sights
+pub mod Stands
+pub mod Step
+pub mod Tables
+pub mod Transcript
