@@ -1,0 +1,4 @@
+pub mod Examples
+pub mod Form
+pub mod Means
+pub mod Tested
