@@ -150,7 +150,7 @@ fn aggregate_word(kind: AggregateKind) -> &'static str {
     }
 }
 
-fn arith_sign(kind: ArithKind) -> &'static str {
+pub fn arith_sign(kind: ArithKind) -> &'static str {
     match kind {
         ArithKind::Plus => "(+ ",
         ArithKind::Minus => "(- ",
@@ -158,7 +158,7 @@ fn arith_sign(kind: ArithKind) -> &'static str {
     }
 }
 
-fn compare_sign(kind: CompareKind) -> &'static str {
+pub fn compare_sign(kind: CompareKind) -> &'static str {
     match kind {
         CompareKind::Equal => "(= ",
         CompareKind::NotEqual => "(<> ",
