@@ -4,7 +4,8 @@ use Rattle.std.specs.declared.option.Option.{Option}
 use Rattle.std.specs.declared.result.Result.{Result}
 use Rattle.std.specs.Result.{IsOk}
 use Rattle.std.specs.Io.KnownBytes.{append_known}
-use Rattle.std.proofs.lemmas.List.{take_more}
+use Rattle.std.proofs.lemmas.List.{take_more, drop_all}
+use Rattle.std.proofs.Math.Seq.{take-add}
 use Rattle.std.proofs.lemmas.Grind.{flat_map-append}
 use Rattle.hq_value.specs.Causes.{HasCause, Rose}
 use Rattle.hq_io.specs.declared.label.Label.{Label}
@@ -121,3 +122,34 @@ module _ {K E : Type 0} {given : K → Option (List ℕ)} {label : K → Option 
   pub surely_ok : {a b : K} {h n : List ℕ} {bytes : List ℕ} (r : Result Unit E) → Puts given label faults sound a b h n r bytes → sound a → faults a < 2 ^ 64 - 1 → IsOk r
   surely_ok (Ok u) p s below = refl
   surely_ok (Err e) p s below = absurd (never_fails p s below)
+
+-- bytes that were written past an empty buffer: what is left of them is what the buffer holds
+unwritten : {E : Type 0} {n : List ℕ} (r : Result Unit E) (count : ℕ) (bytes : List ℕ) → OnOk r (count ≡ length bytes) → n ≡ [] → OnOk r (drop count bytes ≡ n)
+unwritten (Ok u) count bytes whole new = drop_all count bytes (omega (arith, whole)) ∙ sym new
+unwritten (Err e) count bytes whole new = tt
+
+-- some items more of a loop
+flat_map_some : {X : Type 0} (f : X → List ℕ) (xs : List X) (i n : ℕ) → flat_map f (take i xs) ++ flat_map f (take (i + n - i) (drop i xs)) ≡ flat_map f (take (i + n) xs)
+flat_map_some f xs i n =
+    let same : i + n - i ≡ n = omega (arith) in
+    ap (λ m. flat_map f (take i xs) ++ flat_map f (take m (drop i xs))) same
+    ∙ sym (flat_map-append f (take i xs) (take n (drop i xs))) ∙ ap (flat_map f) (sym (take-add i n xs))
+
+module _ {K E : Type 0} {given : K → Option (List ℕ)} {label : K → Option Label} {faults : K → ℕ} {sound : K → Type 0} where
+  pub puts_past : {a b : K} {h n bytes : List ℕ} (r : Result Unit E) → h ≡ [] → n ≡ [] → WritesPrefix (given a) (given b) r bytes → label b ≡ label a → HasCause (faults a) (faults b) r → (sound a → (faults b ≡ faults a) × sound b) → Puts given label faults sound a b h n r bytes
+  puts_past {a} {b} {h} {n} {bytes} r old new wrote labelled cause promise = record {
+    sent = take wrote.count bytes;
+    rest = drop wrote.count bytes;
+    told = wrote.appended;
+    whole = take-append-drop wrote.count bytes ∙ ap (λ l. l ++ bytes) (sym old);
+    kept = unwritten r wrote.count bytes wrote.whole new;
+    labelled = labelled;
+    cause = cause;
+    promise = promise;
+  }
+
+  pub puts_some : {X : Type 0} {a b c : K} {h m n : List ℕ} {u v : Unit {0}} (f : X → List ℕ) (xs : List X) (i count : ℕ) → Puts {E = E} given label faults sound a b h m (Ok u) (flat_map f (take i xs)) → Puts {E = E} given label faults sound b c m n (Ok v) (flat_map f (take (i + count - i) (drop i xs))) → Puts {E = E} given label faults sound a c h n (Ok v) (flat_map f (take (i + count) xs))
+  puts_some f xs i count p q = puts_then p q (flat_map_some f xs i count)
+
+  pub puts_cut : {X : Type 0} {a b c : K} {h m n : List ℕ} {u : Unit {0}} {e d : E} {s : Result Unit E} (f : X → List ℕ) (xs : List X) (i count : ℕ) → Puts {E = E} given label faults sound a b h m (Ok u) (flat_map f (take i xs)) → Puts given label faults sound b c m n (Err e) (flat_map f (take (i + count - i) (drop i xs))) → s ≡ Err d → Puts given label faults sound a c h n s (flat_map f xs)
+  puts_cut f xs i count p q failed = puts_stop (puts_then p q (flat_map_some f xs i count)) failed (flat_map f (drop (i + count) xs)) (flat_map_rest f xs (i + count))

@@ -4,7 +4,7 @@
 --     fault_text fault        the code and the text of a refusal
 --     reply_text reply        the lines of a reply
 --     replies_text replies    the texts, one behind another
-use Rattle.std.specs.Prelude.{ℕ, true, false, List, [], ◌∷◌, ◌++◌, length, Option, Some, None, codes, decimal, flat_map, if◌then◌else◌, ◌==◌}
+use Rattle.std.specs.Prelude.{◌≡◌, ◌⊎◌, ℕ, true, false, List, [], ◌∷◌, ◌++◌, length, Option, Some, None, codes, decimal, flat_map, if◌then◌else◌, ◌==◌}
 use Rattle.std.specs.Fmt.{signed_decimal}
 use Rattle.hq_value.specs.declared.value.Value.{Value}
 use Rattle.hq_value.specs.declared.value.Value.TheVariants as variant
@@ -21,6 +21,10 @@ printed_byte byte =
     else (if byte == 10 then codes "\\n"
     else (if byte == 13 then codes "\\r"
     else byte ∷ [])))
+
+-- a byte alone, or bytes that are printed as they stand
+abbrev pub IsPart : List ℕ → Type 0
+IsPart part = (length part ≡ 1) ⊎ (flat_map printed_byte part ≡ part)
 
 -- NULL is `\N`, FALSE `f`, TRUE `t`, an integer decimal
 abbrev pub value_text : Value → List ℕ

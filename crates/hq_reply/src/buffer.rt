@@ -92,4 +92,16 @@ impl Buffer {
         self.add(bytes);
         Ok(())
     }
+
+    /// Takes these bytes, however many: where there is no room for them, the sink gets what is held and then them.
+    pub fn put_run<K: Sink>(&mut self, bytes: &[u8], sink: &mut K) -> Result<(), Failed>
+        ensures { Puts K.given K.label K.faults K.sound sink.old sink.new
+            self.old self.new result bytes.now }
+    {
+        if bytes.len() <= Buffer::ROOM {
+            return self.put(bytes, sink);
+        }
+        self.flush(sink)?;
+        sink.write_all(bytes)
+    }
 }
