@@ -30,7 +30,7 @@ use Rattle.hq_ops.specs.declared.work.Work.{Work}
 use Rattle.hq_ops.specs.declared.work.Work.TheVariants as work
 use Rattle.hq_ops.specs.Beginnings.{IsJoinOf, IsPartialOf, IsFinalOf}
 use Rattle.hq_ops.specs.Ends.{StopsAt, Gives, IsNumericAt, end_of, ended}
-use Rattle.hq_ops.specs.Taking.{HasTakenAfter, GivesRest, FailsFor, EndsAs}
+use Rattle.hq_ops.specs.Taking.{HasTakenAfter, GivesRest, FailsFor, EndsAs, IsFirstOf}
 use Rattle.hq_ops.specs.Gathering.{HasGathered, row_faults, group_rows, group_leaves, some_fault}
 use Rattle.hq_ops.specs.Grouped.{ArePartial, final_columns}
 use Rattle.hq_ops.specs.Grouping.{groups_of, IsGrouping}
@@ -56,6 +56,10 @@ or-nothing : (a b : Bool) → b ≡ false → (a || b) ≡ a
 or-nothing true b e = refl
 or-nothing false b e = e
 
+-- what holds of some row still does where rows stand before and behind it
+still-any : (p : Row → Bool) (before rows more : List Row) → list_any p rows ≡ true → list_any p (before ++ rows ++ more) ≡ true
+still-any p before rows more e = list_any-append p (before ++ rows) more ∙ or-left _ _ (list_any-append p before rows ∙ or-right _ _ e)
+
 -- Filter
 pub took-filter : (op : Op) (build pushed given rows found : List Row) (cond : Bor Expr) → Holds op build pushed given (work.Filter cond) → found ≡ filtered cond.now rows → TookRows op build pushed given rows found (work.Filter cond)
 took-filter op build pushed given rows found cond h e = record {
@@ -73,7 +77,7 @@ took-project op build pushed given rows found items h e fine = record {
 
 pub project-fault : (op : Op) (build pushed given rows : List Row) (items : Bor (List Expr)) → Holds op build pushed given (work.Project items) → project_faults items.now rows ≡ true → TookFault op pushed rows
 project-fault op build pushed given rows items h e = record {
-  faults = h.0.fails_are (pushed ++ rows) ∙ list_any-append (λ row. list_any (λ e. faults_at e row) items.now) pushed rows ∙ or-right _ _ e;
+  faults = λ more. h.0.fails_are (pushed ++ rows ++ more) ∙ still-any (λ row. list_any (λ e. faults_at e row) items.now) pushed rows more e;
   streams = λ s. h.0.fails_are rows ∙ e;
 }
 
@@ -116,8 +120,8 @@ took-grouped op build pushed given rows found by g h held more e = record {
 pub group-fault : (op : Op) (build pushed given rows : List Row) (by : GroupBy) (g : Gathered) → Holds op build pushed given (work.Group by g)
     → list_any (row_faults (map (λ t. t.column) g.tallies.items)) rows ≡ true → TookFault op pushed rows
 group-fault op build pushed given rows by g held e = record {
-  faults = held.1.fails_are (pushed ++ rows)
-      ∙ or-left _ _ (list_any-append (row_faults held.0) pushed rows ∙ or-right _ _ (ap (λ cs. list_any (row_faults cs) rows) (sym held.2.columns_are) ∙ e));
+  faults = λ more. held.1.fails_are (pushed ++ rows ++ more)
+      ∙ or-left _ _ (still-any (row_faults held.0) pushed rows more (ap (λ cs. list_any (row_faults cs) rows) (sym held.2.columns_are) ∙ e));
   streams = nothing-streams op false held.1.streams_are refl;
 }
 
@@ -170,9 +174,9 @@ pub ends-so : (why : Stop) (p : Pipe) → p.work ≡ work.Ended why → EndsAs (
 ends-so stop.Numeric p e = e
 ends-so stop.NoMemory p e = e
 
-pub fails-so : (op : Op) (build pushed given rows : List Row) (why : Stop) → Took op build pushed given rows (Err why) → FailsFor (end_of why) (fails op (pushed ++ rows))
-fails-so op build pushed given rows stop.Numeric t = t.faults
-fails-so op build pushed given rows stop.NoMemory t = tt
+pub fails-so : (op : Op) (build pushed given rows more : List Row) (why : Stop) → Took op build pushed given rows (Err why) → FailsFor (end_of why) (fails op (pushed ++ rows ++ more))
+fails-so op build pushed given rows more stop.Numeric t = t.faults more
+fails-so op build pushed given rows more stop.NoMemory t = tt
 
 pub nothing-after : (op : Op) (build pushed given : List Row) (why : Stop) (p : Pipe) → HasTakenAfter op build pushed given (end_of why) p
 nothing-after op build pushed given stop.Numeric p = tt
@@ -186,3 +190,20 @@ pub gives-rest : (r : Result (Vec (List Value)) Stop) (given all : List Row) →
 gives-rest (Ok found) given all h = h
 gives-rest (Err stop.Numeric) given all h = tt
 gives-rest (Err stop.NoMemory) given all h = tt
+
+-- what was given stays first
+first-streamed : (op : Op) (build pushed more given : List Row) (given_by : List Row → List Row) (failing : List Row → Bool) (s : Bool) → Stands given_by failing s op build
+    → given_by (pushed ++ more) ≡ given_by pushed ++ given_by more → given ≡ given_by pushed → IsFirstOf given (gives op build (pushed ++ more))
+first-streamed op build pushed more given given_by failing s stands both e = (given_by more, stands.gives_are (pushed ++ more) ∙ both ∙ ap (λ l. l ++ given_by more) (sym e))
+
+first-nothing : (given all : List Row) → given ≡ [] → IsFirstOf given all
+first-nothing given all e = (all, ap (λ l. l ++ all) (sym e))
+
+pub stays-first : (op : Op) (build pushed given more : List Row) (w : Work) → Holds op build pushed given w → IsFirstOf given (gives op build (pushed ++ more))
+stays-first op build pushed given more (work.Filter cond) h = first-streamed op build pushed more given _ _ _ h.0 (filter-append (is_true_at cond.now) pushed more) h.1
+stays-first op build pushed given more (work.Project items) h = first-streamed op build pushed more given _ _ _ h.0 (map-append (λ row. map (λ e. value_at e row) items.now) pushed more) h.1
+stays-first op build pushed given more (work.Join lk rk right) h = first-streamed op build pushed more given _ _ _ h.stands (flat_map-append (beside lk.now rk.now build) pushed more) h.given_are
+stays-first op build pushed given more (work.Group by g) h = first-nothing given _ h.3
+stays-first op build pushed given more (work.Distinct seen) h = first-nothing given _ h.2
+stays-first op build pushed given more (work.Sort order limit rows) h = first-nothing given _ h.2
+stays-first op build pushed given more (work.Ended why) h = absurd h

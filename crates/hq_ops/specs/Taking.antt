@@ -3,6 +3,7 @@
 --     HasTakenAfter op build pushed given end   the same after the rows that a push gives
 --     GivesRest end given rows                  the rows that it gives are what is left of all
 --     FailsFor end fault                        Numeric comes only where there is a fault
+--     IsFirstOf given all                       rows are the first of all
 --     EndsAs end pipe                           after an end without rows the pipe has ended so
 --     HasEnded why pipe                         a pipe has ended: each later call ends so again
 use Rattle.std.specs.Prelude.{◌≡◌, Bool, true, List, ◌++◌}
@@ -35,6 +36,10 @@ GivesRest _ given rows = Unit {0}
 abbrev pub FailsFor : OpEnd → Bool → Type 0
 FailsFor end.Numeric fault = fault ≡ true
 FailsFor _ fault = Unit {0}
+
+-- rows are the first of all
+abbrev pub IsFirstOf : List Row → List Row → Type 0
+IsFirstOf given all = (others : List Row) × (all ≡ given ++ others)
 
 -- a pipe has ended: each later call ends so again
 abbrev pub HasEnded : Stop → Pipe → Type 0

@@ -52,8 +52,9 @@ pub record TookRows (op : Op) (build pushed given rows found : List Row) (work :
   pub holds : Holds op build (pushed ++ rows) (given ++ found) work
   pub streams : is_streamed op ≡ true → (found ≡ gives op build rows) × (fails op rows ≡ false)
 
+-- some evaluation faults, whatever rows follow
 pub record TookFault (op : Op) (pushed rows : List Row) : Type 0 where
-  pub faults : fails op (pushed ++ rows) ≡ true
+  pub faults : (more : List Row) → fails op (pushed ++ rows ++ more) ≡ true
   pub streams : is_streamed op ≡ true → fails op rows ≡ true
 
 abbrev pub Took : Op → List Row → List Row → List Row → List Row → Result (Work × Vec (List Value)) Stop → Type 0

@@ -37,13 +37,13 @@ impl<'a> Pipe<'a> {
         Ok(Pipe { alloc, work })
     }
 
-    /// More rows, and what is given of them. Numeric only where an evaluation over some row so far faults. After an
-    /// end without rows each later call ends so too.
+    /// More rows, and what is given of them. Numeric only where an evaluation over some row so far faults, whatever rows
+    /// follow. After an end without rows each later call ends so too.
     pub fn push(&mut self, rows: Vec<Row>) -> OpEnd
         ensures rows { (op : Operator) (build pushed given : List (List Datum)) → HasTaken op build pushed given self.old →
             HasTakenAfter op build (pushed ++ rows.items) given result self.new }
-        ensures numeric { (op : Operator) (build pushed given : List (List Datum)) → HasTaken op build pushed given self.old →
-            FailsFor result (fails op (pushed ++ rows.items)) }
+        ensures numeric { (op : Operator) (build pushed given more : List (List Datum)) → HasTaken op build pushed given self.old →
+            FailsFor result (fails op (pushed ++ rows.items ++ more)) }
         ensures streamed { (op : Operator) (build pushed given : List (List Datum)) → HasTaken op build pushed given self.old →
             is_streamed op ≡ true → Gives result (gives op build rows.items) × IsNumericAt result (fails op rows.items) }
         ensures ends { EndsAs result self.new }

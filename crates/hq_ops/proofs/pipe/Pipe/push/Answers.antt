@@ -19,9 +19,9 @@ returns-in-Ok-clause-streamed c op build pushed given h s =
     (rw c.in-Ok.is at c.take.ensures.took op build pushed given (subst (λ (w : Work). Holds op build pushed given w) (sym c.replace-work.ensures.value) h)).streams s
 
 pub returns-in-Err-clause-numeric : goal.returns-in-Err-clause-numeric
-returns-in-Err-clause-numeric c op build pushed given h =
-    subst (λ (e : OpEnd). FailsFor e (fails op (pushed ++ c.args.rows.items))) (sym c.end_of.ensures)
-    (fails-so op build pushed given c.args.rows.items c.in-Err.stop (rw c.in-Err.is at c.take.ensures.took op build pushed given (subst (λ (w : Work). Holds op build pushed given w) (sym c.replace-work.ensures.value) h)))
+returns-in-Err-clause-numeric c op build pushed given more h =
+    subst (λ (e : OpEnd). FailsFor e (fails op (pushed ++ c.args.rows.items ++ more))) (sym c.end_of.ensures)
+    (fails-so op build pushed given c.args.rows.items more c.in-Err.stop (rw c.in-Err.is at c.take.ensures.took op build pushed given (subst (λ (w : Work). Holds op build pushed given w) (sym c.replace-work.ensures.value) h)))
 
 pub returns-in-Err-clause-streamed : goal.returns-in-Err-clause-streamed
 returns-in-Err-clause-streamed c op build pushed given h s =
