@@ -18,8 +18,10 @@ pub mod Ranges
 pub mod RowLaws
 pub mod Rows
 pub mod Said
+pub mod RowLists
 pub mod Sizes
 pub mod Skipped
 pub mod Utf8
 pub mod Values
+pub mod Wider
 pub mod Written

@@ -5,4 +5,5 @@ pub mod Fault
 pub mod Heads
 pub mod Reading
 pub mod Row
+pub mod RowLists
 pub mod Skipping

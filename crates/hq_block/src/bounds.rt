@@ -12,6 +12,7 @@ ghost use Rattle.hq_block.specs.Reading.{Gives, bound_at, range_at, bounds_at, a
 use crate::fault::Misread;
 use crate::fields::value_at;
 use crate::put::{put_bytes, put_value};
+use crate::row_list::RowList;
 use hq_value::{Kind, NoMemory, Row, Sequence, Value, compare_values};
 use std::alloc::Global;
 
@@ -121,12 +122,12 @@ fn with_int(extent: Extent, row: &Row, place: usize) -> Option<Extent>
 }
 
 // The extent of a column of integers; None where it has other values.
-fn ints_in(place: usize, rows: &[Row]) -> Option<Extent>
+fn ints_in(place: usize, rows: &RowList) -> Option<Extent>
     ensures { IfSome result (λ extent. extent_bounds extent ≡ exact.range_of place rows.now) }
 {
     let mut extent = Extent::Empty;
-    for row in rows {
-        extent = with_int(extent, row, place)?;
+    for i in 0..rows.len() {
+        extent = with_int(extent, rows.get(i), place)?;
     }
     Some(extent)
 }
@@ -143,7 +144,7 @@ fn bounds_of(extent: Extent) -> Bounds
     }
 }
 
-fn range_of(place: usize, rows: &[Row]) -> Result<Bounds, NoMemory>
+fn range_of(place: usize, rows: &RowList) -> Result<Bounds, NoMemory>
     ensures { IfOk result (λ bounds. bounds ≡ exact.range_of place rows.now) }
 {
     match ints_in(place, rows) {
@@ -152,17 +153,17 @@ fn range_of(place: usize, rows: &[Row]) -> Result<Bounds, NoMemory>
     }
 }
 
-fn range_of_any(place: usize, rows: &[Row]) -> Result<Bounds, NoMemory>
+fn range_of_any(place: usize, rows: &RowList) -> Result<Bounds, NoMemory>
     ensures { IfOk result (λ bounds. bounds ≡ exact.range_of place rows.now) }
 {
     let mut bounds = Bounds::Empty;
-    for row in rows {
-        bounds = with_row(bounds, row, place)?;
+    for i in 0..rows.len() {
+        bounds = with_row(bounds, rows.get(i), place)?;
     }
     Ok(bounds)
 }
 
-fn column_bounds(kind: Kind, place: usize, rows: &[Row]) -> Result<Bounds, NoMemory>
+fn column_bounds(kind: Kind, place: usize, rows: &RowList) -> Result<Bounds, NoMemory>
     ensures { IfOk result (λ bounds. bounds ≡ exact.column_bounds kind place rows.now) }
 {
     match kind {
@@ -172,10 +173,15 @@ fn column_bounds(kind: Kind, place: usize, rows: &[Row]) -> Result<Bounds, NoMem
 }
 
 // Whether the column has a value but NULL.
-fn has_value(place: usize, rows: &[Row]) -> bool
+fn has_value(place: usize, rows: &RowList) -> bool
     ensures { result ≡ exact.has_value place rows.now }
 {
-    rows.iter().any(|row| is_some_at(row, place))
+    for i in 0..rows.len() {
+        if is_some_at(rows.get(i), place) {
+            return true;
+        }
+    }
+    false
 }
 
 fn is_some_at(row: &Row, place: usize) -> bool
@@ -198,7 +204,7 @@ fn bound_size(kind: Kind, some: bool) -> usize
     }
 }
 
-fn bound_length(kind: Kind, place: usize, rows: &[Row]) -> usize
+fn bound_length(kind: Kind, place: usize, rows: &RowList) -> usize
     requires { All (λ row. IsOfKind kind (exact.value_at row place)) rows.now }
     ensures length { result ≡ length (exact.bound_bytes (exact.column_bounds kind place rows.now)) }
     ensures short { result ≤ 17 }
@@ -207,7 +213,7 @@ fn bound_length(kind: Kind, place: usize, rows: &[Row]) -> usize
 }
 
 /// How many bytes the bounds of the rows' columns take: at most 17 a column.
-pub(crate) fn bounds_length(kinds: &[Kind], rows: &[Row]) -> usize
+pub(crate) fn bounds_length(kinds: &[Kind], rows: &RowList) -> usize
     requires few { length kinds.now ≤ 64 }
     requires fit { All (Fits kinds.now) rows.now }
     ensures length { result ≡ length (exact.bounds_bytes (exact.bounds_of kinds.now rows.now)) }
@@ -235,7 +241,7 @@ fn put_bound(out: &mut Vec<u8>, bounds: &Bounds) -> Result<(), NoMemory>
 }
 
 /// Adds the bounds of each column of the rows.
-pub(crate) fn put_bounds(out: &mut Vec<u8>, kinds: &[Kind], rows: &[Row]) -> Result<(), NoMemory>
+pub(crate) fn put_bounds(out: &mut Vec<u8>, kinds: &[Kind], rows: &RowList) -> Result<(), NoMemory>
     ensures { OnOk result (out.new.items ≡ out.old.items ++ exact.bounds_bytes (exact.bounds_of kinds.now rows.now)) }
 {
     for (place, kind) in kinds.iter().enumerate() {
@@ -257,7 +263,7 @@ pub(crate) fn bounds_are(
 {
     let mut expected = Vec::new(alloc);
     if version == 2 {
-        put_bounds(&mut expected, kinds, rows)?;
+        put_bounds(&mut expected, kinds, &RowList::all(rows))?;
     }
     Ok(expected.as_slice() == bytes)
 }

@@ -9,6 +9,7 @@ use crate::EncodeFault;
 use crate::bounds::{bounds_length, put_bounds};
 use crate::head::Head;
 use crate::put::{put_bytes, put_row, row_length};
+use crate::row_list::RowList;
 use hq_value::{Kind, Kinds, NoMemory, Row};
 use std::alloc::Global;
 
@@ -21,6 +22,20 @@ const MOST_BOUNDS: usize = 1_088;
 /// The block of the rows: 16 bytes of head, the bounds where there are 16 rows or more, and the rows one after the
 /// other. TooLarge comes exactly where that would be more than 65,536 bytes, which one row never is.
 pub fn encode_block(alloc: Global, kinds: &Kinds, rows: &[Row]) -> Result<Vec<u8>, EncodeFault>
+    requires some_kinds { 0 < length kinds.now }
+    requires few_kinds { length kinds.now ≤ 64 }
+    requires some_rows { 0 < length rows.now }
+    requires fit { All (Fits kinds.now) rows.now }
+    ensures written { IfOk result (λ block. block.items ≡ block_bytes kinds.now rows.now) }
+    ensures spelled { OnOk result (IsBlock kinds.now rows.now (block_bytes kinds.now rows.now)) }
+    ensures too_large { (result ≡ Err EncodeFault.TooLarge) ↔ (65536 < block_length kinds.now rows.now) }
+    ensures one_row { length rows.now ≡ 1 → result ≢ Err EncodeFault.TooLarge }
+{
+    encode_list(alloc, kinds, &RowList::all(rows))
+}
+
+/// The same of rows that lie anywhere.
+pub fn encode_list(alloc: Global, kinds: &Kinds, rows: &RowList) -> Result<Vec<u8>, EncodeFault>
     requires some_kinds { 0 < length kinds.now }
     requires few_kinds { length kinds.now ≤ 64 }
     requires some_rows { 0 < length rows.now }
@@ -55,7 +70,7 @@ fn version_of(rows: usize) -> u8
 }
 
 // How many bytes the bounds take that are written.
-fn written_length(kinds: &[Kind], rows: &[Row]) -> usize
+fn written_length(kinds: &[Kind], rows: &RowList) -> usize
     requires few { length kinds.now ≤ 64 }
     requires fit { All (Fits kinds.now) rows.now }
     ensures length { result ≡ length (written_bounds kinds.now rows.now) }
@@ -69,7 +84,7 @@ fn written_length(kinds: &[Kind], rows: &[Row]) -> usize
     }
 }
 
-fn put_written(out: &mut Vec<u8>, kinds: &[Kind], rows: &[Row]) -> Result<(), NoMemory>
+fn put_written(out: &mut Vec<u8>, kinds: &[Kind], rows: &RowList) -> Result<(), NoMemory>
     ensures { OnOk result (out.new.items ≡ out.old.items ++ written_bounds kinds.now rows.now) }
 {
     if rows.len() >= 16 {
@@ -79,7 +94,7 @@ fn put_written(out: &mut Vec<u8>, kinds: &[Kind], rows: &[Row]) -> Result<(), No
 }
 
 // How many bytes the rows take, where there is room for them.
-fn body_length(rows: &[Row], room: usize) -> Option<usize>
+fn body_length(rows: &RowList, room: usize) -> Option<usize>
     requires few { All (λ row. length row ≤ 64) rows.now }
     requires room { room ≤ 65520 }
     ensures size { IfSome result (λ size. size ≡ length (body_bytes rows.now)) }
@@ -88,8 +103,8 @@ fn body_length(rows: &[Row], room: usize) -> Option<usize>
     ensures one_row { length rows.now ≡ 1 → 64136 ≤ room → IsSome result }
 {
     let mut size = 0;
-    for row in rows {
-        size += row_length(row);
+    for i in 0..rows.len() {
+        size += row_length(rows.get(i));
         if size > room {
             return None;
         }
@@ -126,13 +141,13 @@ fn put_head(out: &mut Vec<u8>, head: Head) -> Result<(), NoMemory>
     )
 }
 
-fn put_rows(out: &mut Vec<u8>, kinds: &Kinds, rows: &[Row]) -> Result<(), NoMemory>
+fn put_rows(out: &mut Vec<u8>, kinds: &Kinds, rows: &RowList) -> Result<(), NoMemory>
     requires { All (Fits kinds.now) rows.now }
     ensures appended { OnOk result (out.new.items ≡ out.old.items ++ body_bytes rows.now) }
     ensures storable { OnOk result (AllByRecursion (IsStorable kinds.now) rows.now) }
 {
-    for row in rows {
-        put_row(out, kinds, row)?;
+    for i in 0..rows.len() {
+        put_row(out, kinds, rows.get(i))?;
     }
     Ok(())
 }
@@ -147,10 +162,23 @@ pub fn fitting_rows(kinds: &Kinds, rows: &[Row]) -> usize
     ensures room { block_length kinds.now (take result rows.now) ≤ 65536 }
     ensures more { result < length rows.now → 65536 < block_length kinds.now (take (result + 1) rows.now) }
 {
+    fitting_in_list(kinds, &RowList::all(rows))
+}
+
+/// The same of rows that lie anywhere.
+pub fn fitting_in_list(kinds: &Kinds, rows: &RowList) -> usize
+    requires few_kinds { length kinds.now ≤ 64 }
+    requires fit { All (Fits kinds.now) rows.now }
+    ensures count { result ≡ fitting_a_block kinds.now rows.now }
+    ensures within { result ≤ length rows.now }
+    ensures some { 0 < length rows.now → 0 < result }
+    ensures room { block_length kinds.now (take result rows.now) ≤ 65536 }
+    ensures more { result < length rows.now → 65536 < block_length kinds.now (take (result + 1) rows.now) }
+{
     fitting(kinds.as_slice(), rows)
 }
 
-fn fitting(kinds: &[Kind], rows: &[Row]) -> usize
+fn fitting(kinds: &[Kind], rows: &RowList) -> usize
     requires few { length kinds.now ≤ 64 }
     requires fit { All (Fits kinds.now) rows.now }
     ensures within { result ≤ length rows.now }
@@ -159,9 +187,9 @@ fn fitting(kinds: &[Kind], rows: &[Row]) -> usize
     ensures more { result < length rows.now → 65536 < block_length kinds.now (take (result + 1) rows.now) }
 {
     let mut body = 0;
-    for (i, row) in rows.iter().enumerate() {
-        let more = body + row_length(row);
-        if !is_block(kinds, &rows[..i + 1], more) {
+    for i in 0..rows.len() {
+        let more = body + row_length(rows.get(i));
+        if !is_block(kinds, &rows.first(i + 1), more) {
             return i;
         }
         body = more;
@@ -170,7 +198,7 @@ fn fitting(kinds: &[Kind], rows: &[Row]) -> usize
 }
 
 // Whether rows of so many bytes fit a block with their bounds.
-fn is_block(kinds: &[Kind], rows: &[Row], body: usize) -> bool
+fn is_block(kinds: &[Kind], rows: &RowList, body: usize) -> bool
     requires few { length kinds.now ≤ 64 }
     requires fit { All (Fits kinds.now) rows.now }
     requires body { body ≡ length (body_bytes rows.now) }

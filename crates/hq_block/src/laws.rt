@@ -1,5 +1,5 @@
 //! Laws of rows, blocks and files.
-ghost use Rattle.std.specs.Prelude.{◌≡◌, ◌<◌, ◌≤◌, ◌++◌, ℕ, [], List, length, take, drop, slice_index, slice_index_or, true, false, All, ◌/◌, ◌%◌, ◌^◌};
+ghost use Rattle.std.specs.Prelude.{◌≡◌, ◌<◌, ◌≤◌, ◌++◌, ℕ, [], List, length, map, take, drop, slice_index, slice_index_or, true, false, All, ◌/◌, ◌%◌, ◌^◌};
 ghost use Rattle.std.specs.List.{AllByRecursion, list_all};
 ghost use Rattle.hq_value.specs.declared.value.Value.{Value as Datum};
 ghost use Rattle.hq_value.specs.declared.value.Value.TheVariants.{Bool as Flag};
@@ -9,7 +9,7 @@ ghost use Rattle.hq_block.specs.declared.skip.ColumnTest.{ColumnTest as Test};
 ghost use Rattle.hq_block.specs.Heads.{HeadIs, HeadLength};
 ghost use Rattle.hq_block.specs.Skipping.{passes_test, skips};
 ghost use Rattle.hq_block.specs.Row.{IsRow, IsStorable, null_bitmap, null_flag};
-ghost use Rattle.hq_block.specs.Block.{IsBlock, FileRows, block_bytes, block_length, fitting_a_block, pack};
+ghost use Rattle.hq_block.specs.Block.{IsBlock, FileRows, block_bytes, block_length, fitting_a_block, pack, padded};
 
 /// In a row's null bitmap, bit i mod 8 of byte i / 8 is set exactly where column i is NULL, and no other bit.
 pub fn nulls_have_their_bits()
@@ -85,4 +85,12 @@ pub fn skipped_blocks_have_no_row()
 /// A block is as long as is told before it is written.
 pub fn block_lengths()
     ensures { (kinds : List Sort) (rows : List (List Datum)) → length (block_bytes kinds rows) ≡ block_length kinds rows }
+{}
+
+/// What is read over more kinds is what is read over fewer, with NULLs in the columns more.
+pub fn wider_rows_are_padded()
+    ensures block { (kinds more : List Sort) (rows : List (List Datum)) (bytes : List ℕ) → IsBlock kinds rows bytes →
+        IsBlock (kinds ++ more) (map (padded (length (kinds ++ more))) rows) bytes }
+    ensures file { (kinds more : List Sort) (rows : List (List Datum)) (bytes : List ℕ) → FileRows kinds bytes rows →
+        FileRows (kinds ++ more) bytes (map (padded (length (kinds ++ more))) rows) }
 {}

@@ -1,6 +1,8 @@
 -- Rows appended to a place in blocks.
 --     GrewByFirst told kinds count rows old new    it grew by the blocks of the first `count` rows
-use Rattle.std.specs.Prelude.{◌≡◌, ℕ, Bool, List, ◌++◌, take, drop}
+--     chosen_rows references                       the rows that the references lead to
+use Rattle.std.specs.Prelude.{◌≡◌, ℕ, Bool, List, ◌++◌, map, take, drop}
+use Rattle.std.specs.Borrow.{Bor}
 use Rattle.hq_value.specs.declared.value.Value.{Value}
 use Rattle.hq_value.specs.declared.kind.Kind.{Kind}
 use Rattle.hq_block.specs.Block.{FileRows, pack}
@@ -13,3 +15,7 @@ pub record GrewByFirst (told : Bool) (kinds : List Kind) (count : ℕ) (rows : L
   pub first : FileRows kinds added (take count rows)
   pub others : pack kinds rows ≡ added ++ pack kinds (drop count rows)
   pub grown : IsGrown told old added new
+
+-- the rows that the references lead to
+abbrev pub chosen_rows : List (Bor (List Value)) → List (List Value)
+chosen_rows references = map (λ row. row.now) references

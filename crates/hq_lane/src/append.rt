@@ -8,9 +8,9 @@ ghost use Rattle.hq_lane.specs.BucketFiles.{IsGrown};
 ghost use Rattle.hq_lane.specs.Packing.{GrewByFirst};
 
 use crate::bucket_file::BucketFile;
-use hq_block::{EncodeFault, encode_block, fitting_rows};
+use hq_block::{EncodeFault, RowList, encode_list, fitting_in_list};
 use hq_store::{SealCopy, Store, StoreFault, StoredFile};
-use hq_value::{Kinds, Row};
+use hq_value::Kinds;
 use std::alloc::Global;
 
 impl<F: StoredFile, Z: SealCopy> BucketFile<F, Z> {
@@ -21,7 +21,7 @@ impl<F: StoredFile, Z: SealCopy> BucketFile<F, Z> {
         alloc: Global,
         store: &mut S,
         kinds: &Kinds,
-        rows: &[Row],
+        rows: &RowList,
     ) -> Result<(), StoreFault>
         requires some_kinds { 0 < length kinds.now }
         requires few_kinds { length kinds.now ≤ 64 }
@@ -40,14 +40,14 @@ impl<F: StoredFile, Z: SealCopy> BucketFile<F, Z> {
         ensures cause { IsErrOf result StoreFault.Failed → Rose (S.faults store.old) (S.faults store.new) }
         ensures store { GoesOn S.faults S.given S.sound store.old store.new }
     {
-        if rows.is_empty() {
+        if rows.len() == 0 {
             return Ok(());
         }
         let mut done = 0;
         while done < rows.len() {
-            let rest = &rows[done..];
-            let count = fitting_rows(kinds, rest);
-            self.append_block(alloc, store, kinds, &rest[..count])?;
+            let rest = rows.behind(done);
+            let count = fitting_in_list(kinds, &rest);
+            self.append_block(alloc, store, kinds, &rest.first(count))?;
             done += count;
         }
         Ok(())
@@ -59,7 +59,7 @@ impl<F: StoredFile, Z: SealCopy> BucketFile<F, Z> {
         alloc: Global,
         store: &mut S,
         kinds: &Kinds,
-        rows: &[Row],
+        rows: &RowList,
     ) -> Result<(), StoreFault>
         requires some_kinds { 0 < length kinds.now }
         requires few_kinds { length kinds.now ≤ 64 }
@@ -78,7 +78,7 @@ impl<F: StoredFile, Z: SealCopy> BucketFile<F, Z> {
         ensures cause { IsErrOf result StoreFault.Failed → Rose (S.faults store.old) (S.faults store.new) }
         ensures store { GoesOn S.faults S.given S.sound store.old store.new }
     {
-        match encode_block(alloc, kinds, rows) {
+        match encode_list(alloc, kinds, rows) {
             Ok(block) => self.append(store, &block),
             Err(EncodeFault::NoMemory) => Err(StoreFault::NoMemory),
             Err(EncodeFault::TooLarge) => unreachable!(),

@@ -5,9 +5,10 @@ ghost use Rattle.hq_value.specs.Causes.{Rose, GoesOn};
 ghost use Rattle.hq_value.specs.Kinds.{Fits};
 ghost use Rattle.hq_block.specs.Block.{FileRows, pack};
 ghost use Rattle.hq_lane.specs.BucketFiles.{IsGrown};
-ghost use Rattle.hq_lane.specs.Packing.{GrewByFirst};
+ghost use Rattle.hq_lane.specs.Packing.{GrewByFirst, chosen_rows};
 
 use crate::slot::{Slot, Slots, no_slots};
+use hq_block::RowList;
 use hq_store::{SealCopy, Store, StoreFault, StoredFile};
 use hq_value::{BUCKETS, Kinds, Row};
 use std::alloc::Global;
@@ -77,7 +78,44 @@ impl<F: StoredFile, Z: SealCopy> LanePart<F, Z> {
         ensures cause { IsErrOf result StoreFault.Failed → Rose (S.faults store.old) (S.faults store.new) }
         ensures store { GoesOn S.faults S.given S.sound store.old store.new }
     {
-        self.files[bucket as usize].append_rows(alloc, store, kinds, rows)
+        let rows = RowList::all(rows);
+        self.files[bucket as usize].append_rows(alloc, store, kinds, &rows)
+    }
+
+    /// The same of the rows that references lead to, none of which is copied: those of a list that go to this bucket.
+    #[tactic(auto, using(crate::proofs::Ids::ids_set))]
+    pub fn append_chosen<S: Store<File = F, Seal = Z>>(
+        &mut self,
+        alloc: Global,
+        store: &mut S,
+        kinds: &Kinds,
+        bucket: u8,
+        rows: &[&Row],
+    ) -> Result<(), StoreFault>
+        requires in_range { bucket < 16 }
+        requires here { owns self.old bucket ≡ true }
+        requires whole { (file_of self.old.files bucket).torn ≡ false }
+        requires some_kinds { 0 < length kinds.now }
+        requires few_kinds { length kinds.now ≤ 64 }
+        requires fit { All (Fits kinds.now) (chosen_rows rows.now) }
+
+        // No other file changes.
+        ensures others { self.new ≡ record self.old { files = slice_set self.old.files bucket (file_of self.new.files bucket) } }
+
+        ensures packed { OnOk result (IsGrown F.tells (file_of self.old.files bucket) (pack kinds.now (chosen_rows rows.now)) (file_of self.new.files bucket)) }
+        ensures file { OnOk result (FileRows kinds.now (pack kinds.now (chosen_rows rows.now)) (chosen_rows rows.now)) }
+        ensures whole { OnOk result ((file_of self.new.files bucket).torn ≡ false) }
+        ensures first { OnErr result ((count : ℕ) × GrewByFirst F.tells kinds.now count (chosen_rows rows.now) (file_of self.old.files bucket) (file_of self.new.files bucket)) }
+        ensures torn { IsErrOf result StoreFault.Failed → ForSome (file_of self.new.files bucket).file (λ _. (file_of self.new.files bucket).torn ≡ true) }
+        ensures not_torn { IsErrOf result StoreFault.NoMemory → (file_of self.new.files bucket).torn ≡ false }
+        ensures missing { IsNone (file_of self.new.files bucket).file → file_of self.new.files bucket ≡ file_of self.old.files bucket }
+        ensures nothing { rows.now ≡ [] → IsOk result × (self.new ≡ self.old) × (store.new ≡ store.old) }
+
+        ensures cause { IsErrOf result StoreFault.Failed → Rose (S.faults store.old) (S.faults store.new) }
+        ensures store { GoesOn S.faults S.given S.sound store.old store.new }
+    {
+        let rows = RowList::chosen(rows);
+        self.files[bucket as usize].append_rows(alloc, store, kinds, &rows)
     }
 
     /// Takes a file out, and leaves none.

@@ -12,8 +12,9 @@ ghost use Rattle.hq_lane.specs.Packing.{GrewByFirst};
 use crate::bucket_file::BucketFile;
 use crate::lane::OwnFile;
 use crate::range::Readable;
+use hq_block::RowList;
 use hq_store::{SealCopy, Store, StoreFault, StoredFile};
-use hq_value::{BUCKETS, Failed, FileId, Kinds, NoMemory, Row};
+use hq_value::{BUCKETS, Failed, FileId, Kinds, NoMemory};
 use std::alloc::Global;
 use std::marker::Model;
 
@@ -154,7 +155,7 @@ impl<F: StoredFile, Z: SealCopy> Slot<F, Z> {
         alloc: Global,
         store: &mut S,
         kinds: &Kinds,
-        rows: &[Row],
+        rows: &RowList,
     ) -> Result<(), StoreFault>
         requires some_kinds { 0 < length kinds.now }
         requires few_kinds { length kinds.now ≤ 64 }
@@ -176,7 +177,7 @@ impl<F: StoredFile, Z: SealCopy> Slot<F, Z> {
         if let Some(held) = &mut self.held {
             return held.append_rows(alloc, store, kinds, rows);
         }
-        if rows.is_empty() {
+        if rows.len() == 0 {
             return Ok(());
         }
         let Ok(mut made) = Box::new(alloc, BucketFile::empty(self.id)) else {

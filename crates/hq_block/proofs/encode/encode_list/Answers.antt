@@ -4,7 +4,7 @@ use Rattle.hq_value.specs.Kinds.{Fits}
 use Rattle.hq_block.specs.Block.{body_bytes, block_length}
 use Rattle.hq_block.proofs.Lengths.{rows_below, few_columns}
 use Rattle.hq_block.proofs.Written.{block_spelled}
-use Rattle.hq_block.proofs.encode.encode_block.Goals as goal
+use Rattle.hq_block.proofs.encode.encode_list.Goals as goal
 
 pub body_length-requires-clause-few : goal.body_length-requires-clause-few
 body_length-requires-clause-few c = few_columns c.args.kinds.now c.args.rows.now c.requires.few_kinds c.requires.fit
@@ -14,7 +14,7 @@ overflow_cast-head-3 c =
     let kinds = c.args.kinds.now in
     let rows = c.args.rows.now in
     let below : length rows ≤ length (body_bytes rows) = rows_below kinds rows c.requires.some_kinds (recursion_from_All (Fits kinds) rows c.requires.fit) in
-    omega (arith, below, c.in-Some.ensures.size, c.in-Some.ensures.room)
+    omega (arith, below, c.len-3.ensures, c.in-Some.ensures.size, c.in-Some.ensures.room)
 
 pub returns-clause-spelled : goal.returns-clause-spelled
 returns-clause-spelled c =

@@ -1,7 +1,7 @@
 use Rattle.std.proofs.lemmas.List.Elements.{recursion_from_All}
 use Rattle.hq_value.specs.Kinds.{Fits}
 use Rattle.hq_block.proofs.Written.{fitting-is}
-use Rattle.hq_block.proofs.encode.fitting_rows.Goals as goal
+use Rattle.hq_block.proofs.encode.fitting_in_list.Goals as goal
 
 pub returns-clause-count : goal.returns-clause-count
 returns-clause-count c =
