@@ -8,8 +8,8 @@ ghost use Rattle.hq_table.specs.Kept.{bytes_in};
 ghost use Rattle.hq_table.specs.Home.{IsQuiet, files_of, seal_bytes};
 
 use hq_block::{files_grow_by_blocks, files_have_their_rows};
-use hq_lane::{ScanEnd, scan_seal};
-use hq_store::{MemSeal, MemStore};
+use hq_lane::{BlockCursor, ScanFault, skipping_loses_no_row};
+use hq_store::{MemFile, MemSeal, MemStore};
 use hq_value::{BUCKETS, Kinds, NoMemory, Row};
 use std::alloc::Global;
 
@@ -26,19 +26,22 @@ fn scan_bucket(
     ensures added { OnOk result ((kept : List (List Datum)) → FileRows kinds.now seal.now.bytes kept → rows.new.items ≡ rows.old.items ++ kept) }
     ensures quiet { IsQuiet store.new }
 {
-    files_have_their_rows();
-    match scan_seal(alloc, store, seal, kinds) {
-        ScanEnd::Rows(found) => {
-            let mut found = found;
-            match rows.append(&mut found) {
-                Ok(()) => Ok(()),
-                Err(_) => Err(NoMemory),
-            }
+    skipping_loses_no_row();
+    let mut cursor: BlockCursor<MemFile, MemSeal> = BlockCursor::under_seal(
+        alloc,
+        seal,
+        kinds,
+        &[],
+    );
+    while !cursor.is_done() {
+        match cursor.next(store, rows) {
+            Ok(()) => {}
+            Err(ScanFault::NoMemory) => return Err(NoMemory),
+            Err(ScanFault::Store) => unreachable!(),
+            Err(ScanFault::BadBlock { .. }) => unreachable!(),
         }
-        ScanEnd::NoMemory => Err(NoMemory),
-        ScanEnd::Store => unreachable!(),
-        ScanEnd::BadBlock { .. } => unreachable!(),
     }
+    Ok(())
 }
 
 // The rows of a bucket, put behind others. Without a seal it has none.
