@@ -14,10 +14,8 @@ use Rattle.hq_lane.specs.BucketFiles.{BucketState, own_bytes, IsGrown}
 use Rattle.hq_lane.specs.Lanes.{LaneState, PartState, file_of, owns}
 use Rattle.hq_lane.specs.Packing.{GrewByFirst}
 use Rattle.hq_lane.proofs.Growing.{grew_none}
-use Rattle.hq_txn.specs.Parts.{HasSameHead, WritesPart, BeginsPart}
-use Rattle.hq_txn.specs.Members.{buckets_from, members}
+use Rattle.hq_txn.specs.Parts.{HasSameHead, IsWholePart, WritesPart, BeginsPart}
 use Rattle.hq_txn.specs.Writes.{IsWritten, IsBegun, AddsRows, AddsFirst, GainsRows}
-use Rattle.hq_txn.proofs.Sharing.{members-share}
 
 -- a file that has all rows has the first ones
 pub begun-all : (told : Bool) (kinds : List Kind) (rows : List (List Value)) (old new : BucketState) → IsWritten told kinds rows old new → IsBegun told kinds rows old new
@@ -86,6 +84,30 @@ begins-part told kinds shares old now new i head before rest others this = λ b 
     by b owned (inr (inl less)) = subst (IsBegun told kinds (shares b) (file_of old.files b)) (sym (others b (λ e. omega (arith, less, e)))) (begun-all told kinds (shares b) (file_of old.files b) (file_of now.files b) (before b less owned))
     by b owned (inr (inr more)) = begun-none told kinds (shares b) (file_of old.files b) (file_of new.files b) (others b (λ e. omega (arith, more, e)) ∙ rest b (omega (arith, more)))
 
+-- one of which each file is written is whole
+pub whole-part-written : (told : Bool) (kinds : List Kind) (shares : Buckets) (old new : PartState) → HasSameHead old new → WritesPart told kinds shares old new → IsWholePart new
+whole-part-written told kinds shares old new head wrote = λ b within owned. (wrote b within (ap (λ (h : List Bool). slice_index_or h b false) (sym head.here) ∙ owned)).whole
+
+-- one of which the files so far are written, and one is not torn
+pub whole-part-begun : (told : Bool) (kinds : List Kind) (shares : Buckets) (old now new : PartState) (i : ℕ) → HasSameHead old now → HasSameHead now new → IsWholePart old
+    → ((b : ℕ) → b < i → owns old b ≡ true → IsWritten told kinds (shares b) (file_of old.files b) (file_of now.files b))
+    → ((b : ℕ) → i ≤ b → file_of now.files b ≡ file_of old.files b)
+    → ((b : ℕ) → (b ≡ i → ⊥) → file_of new.files b ≡ file_of now.files b)
+    → (owns now i ≡ true → (file_of new.files i).torn ≡ false)
+    → IsWholePart new
+whole-part-begun told kinds shares old now new i head next whole before rest others this = λ b within owned. by b within owned (cases_order b i)
+  where
+    by : (b : ℕ) → b < 16 → owns new b ≡ true → (b ≡ i) ⊎ ((b < i) ⊎ (i < b)) → (file_of new.files b).torn ≡ false
+    by b within owned (inl same) =
+        let here : owns now i ≡ true = ap (λ (h : List Bool). slice_index_or h i false) (sym next.here) ∙ ap (owns new) (sym same) ∙ owned in
+        ap (λ (k : ℕ). (file_of new.files k).torn) same ∙ this here
+    by b within owned (inr (inl less)) =
+        let here : owns old b ≡ true = ap (λ (h : List Bool). slice_index_or h b false) (sym head.here) ∙ ap (λ (h : List Bool). slice_index_or h b false) (sym next.here) ∙ owned in
+        ap (λ (f : BucketState). f.torn) (others b (λ e. omega (arith, less, e))) ∙ (before b less here).whole
+    by b within owned (inr (inr more)) =
+        let here : owns old b ≡ true = ap (λ (h : List Bool). slice_index_or h b false) (sym head.here) ∙ ap (λ (h : List Bool). slice_index_or h b false) (sym next.here) ∙ owned in
+        ap (λ (f : BucketState). f.torn) (others b (λ e. omega (arith, more, e))) ∙ ap (λ (f : BucketState). f.torn) (rest b (omega (arith, more))) ∙ whole b within here
+
 -- a part of which each file is written
 pub begins-all : (told : Bool) (kinds : List Kind) (shares : Buckets) (old new : PartState) → WritesPart told kinds shares old new → BeginsPart told kinds shares old new
 begins-all told kinds shares old new wrote = λ b within owned. begun-all told kinds (shares b) (file_of old.files b) (file_of new.files b) (wrote b within owned)
@@ -102,24 +124,23 @@ adds-none told def rows lane = record {
   files = λ b within. begun-none told (kinds_of def.columns) (share def.keys rows b) (file_of lane.files b) (file_of lane.files b) refl;
 }
 
-module _ (told : Bool) (def : Definition) (rows : List (List Value)) (kinds : List Kind) (buckets : List ℕ) (lane taken whole put : LaneState) (kinds-are : kinds ≡ kinds_of def.columns) (buckets-are : buckets ≡ buckets_from def.keys 0 rows)
+module _ (told : Bool) (def : Definition) (rows : List (List Value)) (kinds : List Kind) (shares : Buckets) (lane taken whole put : LaneState) (kinds-are : kinds ≡ kinds_of def.columns) (shares-are : (b : ℕ) → shares b ≡ share def.keys rows b)
     (out : taken ≡ lane) (back : put ≡ whole) (table : whole.table ≡ taken.table) (number : whole.number ≡ taken.number) where
-  turned : (P : List Kind → List (List Value) → BucketState → BucketState → Type 0) (b : ℕ) → P kinds (members buckets rows b) (file_of taken.files b) (file_of whole.files b) → P (kinds_of def.columns) (share def.keys rows b) (file_of lane.files b) (file_of put.files b)
+  turned : (P : List Kind → List (List Value) → BucketState → BucketState → Type 0) (b : ℕ) → P kinds (shares b) (file_of taken.files b) (file_of whole.files b) → P (kinds_of def.columns) (share def.keys rows b) (file_of lane.files b) (file_of put.files b)
   turned P b holds =
-      let chosen : members buckets rows b ≡ share def.keys rows b = ap (λ (bs : List ℕ). members bs rows b) buckets-are ∙ members-share def.keys 0 rows b in
       subst (λ (ks : List Kind). P ks (share def.keys rows b) (file_of lane.files b) (file_of put.files b)) kinds-are
-      (subst (λ (rs : List (List Value)). P kinds rs (file_of lane.files b) (file_of put.files b)) chosen
-      (subst (λ (l : LaneState). P kinds (members buckets rows b) (file_of l.files b) (file_of put.files b)) out
-      (subst (λ (l : LaneState). P kinds (members buckets rows b) (file_of taken.files b) (file_of l.files b)) (sym back) holds)))
+      (subst (λ (rs : List (List Value)). P kinds rs (file_of lane.files b) (file_of put.files b)) (shares-are b)
+      (subst (λ (l : LaneState). P kinds (shares b) (file_of l.files b) (file_of put.files b)) out
+      (subst (λ (l : LaneState). P kinds (shares b) (file_of taken.files b) (file_of l.files b)) (sym back) holds)))
 
-  pub lane-written : ((b : ℕ) → b < 16 → IsWritten told kinds (members buckets rows b) (file_of taken.files b) (file_of whole.files b)) → AddsRows told def rows lane put
+  pub lane-written : ((b : ℕ) → b < 16 → IsWritten told kinds (shares b) (file_of taken.files b) (file_of whole.files b)) → AddsRows told def rows lane put
   lane-written wrote = record {
     table = ap (λ (l : LaneState). l.table) back ∙ table ∙ ap (λ (l : LaneState). l.table) out;
     number = ap (λ (l : LaneState). l.number) back ∙ number ∙ ap (λ (l : LaneState). l.number) out;
     files = λ b within. turned (IsWritten told) b (wrote b within);
   }
 
-  pub lane-begun : ((b : ℕ) → b < 16 → IsBegun told kinds (members buckets rows b) (file_of taken.files b) (file_of whole.files b)) → AddsFirst told def rows lane put
+  pub lane-begun : ((b : ℕ) → b < 16 → IsBegun told kinds (shares b) (file_of taken.files b) (file_of whole.files b)) → AddsFirst told def rows lane put
   lane-begun began = record {
     table = ap (λ (l : LaneState). l.table) back ∙ table ∙ ap (λ (l : LaneState). l.table) out;
     number = ap (λ (l : LaneState). l.number) back ∙ number ∙ ap (λ (l : LaneState). l.number) out;

@@ -1,10 +1,10 @@
 -- A lane cut into the parts of the nodes, which are written and put together again.
-use Rattle.std.proofs.Common.{◌≡◌, ◌∙◌, ℕ, ◌<◌, Bool, true, List, slice_index, refl, sym, ap, subst, eq-eqb}
+use Rattle.std.proofs.Common.{◌≡◌, ◌∙◌, ℕ, ◌<◌, Bool, true, false, List, slice_index, slice_index_or, refl, sym, ap, subst, eq-eqb}
 use Rattle.std.proofs.lemmas.Bool.{eqb-true}
 use Rattle.hq_value.specs.declared.kind.Kind.{Kind}
 use Rattle.hq_value.specs.Bucket.{Buckets}
 use Rattle.hq_lane.specs.BucketFiles.{BucketState}
-use Rattle.hq_lane.specs.Lanes.{LaneState, PartState, file_of, part_at, file_in, owns, ArePartsOf, AreWhole}
+use Rattle.hq_lane.specs.Lanes.{LaneState, PartState, file_of, part_at, file_in, owns, ArePartsOf, AreWhole, HaveSameHeads}
 use Rattle.hq_detect.specs.Assign.{owner_of}
 use Rattle.hq_txn.specs.InUse.{IsInUse}
 use Rattle.hq_txn.specs.Parts.{IsUsed, IsWholePart, WritesPart, BeginsPart}
@@ -51,3 +51,9 @@ module _ (lane : LaneState) (owner : List ℕ) (parts : List PartState) (are : A
     file-begun b bucket began =
         subst (λ (f : BucketState). IsBegun told kinds (shares b) f (file_of whole.files b)) (are.files b bucket)
         (subst (IsBegun told kinds (shares b) (file_in parts (slice_index owner b) b)) (sym (back b bucket)) (began b bucket (is-owned b (below b bucket) bucket)))
+
+    -- and whole where its owner's part is
+    pub file-whole : HaveSameHeads parts new → (b : ℕ) → b < 16 → IsWholePart (part_at new (slice_index owner b)) → (file_of whole.files b).torn ≡ false
+    file-whole heads b bucket is =
+        let here : owns (part_at new (slice_index owner b)) b ≡ true = ap (λ (h : List Bool). slice_index_or h b false) (heads.here (slice_index owner b)) ∙ is-owned b (below b bucket) bucket in
+        ap (λ (f : BucketState). f.torn) (back b bucket) ∙ is b bucket here

@@ -1,50 +1,55 @@
--- The rows of a bucket, chosen by the list of all rows' buckets.
-use Rattle.std.proofs.Common.{◌≡◌, ◌∙◌, ℕ, suc, ◌+◌, ◌<◌, ◌==◌, Bool, true, false, List, [], ◌∷◌, ◌++◌, All, length, drop, drop-cons, add-one, slice_index_or, cond, refl, sym, ap, arith}
+-- A statement's rows by their buckets, row by row.
+use Rattle.std.proofs.Common.{◌≡◌, ◌∙◌, ◌⊎◌, inl, inr, ◌≢◌, ℕ, zero, suc, ◌+◌, ◌<◌, ◌==◌, Bool, true, false, List, [], ◌∷◌, ◌++◌, All, length, drop, drop-cons, add-one, slice_index_or, cond, refl, sym, ap, arith, append_assoc}
+use Rattle.std.specs.Borrow.{Bor}
+use Rattle.std.proofs.lemmas.Bool.Decides.{eqb_tells}
 use Rattle.std.proofs.lemmas.List.Elements.{All-nil, All-cons}
 use Rattle.hq_value.specs.declared.value.Value.{Value}
 use Rattle.hq_value.specs.Bucket.{bucket_at, share_from}
-use Rattle.hq_txn.specs.Members.{buckets_from, members}
+use Rattle.hq_txn.specs.Shares.{share_in}
 
--- the rows of a bucket are its share
-pub members-share : (keys : List ℕ) (place : ℕ) (rows : List (List Value)) (b : ℕ) → members (buckets_from keys place rows) rows b ≡ share_from keys place rows b
-members-share keys place [] b = refl
-members-share keys place (row ∷ rows) b =
-    ap (λ (rest : List (List Value)). cond (bucket_at keys place row == b) (row ∷ rest) rest) (members-share keys (place + 1) rows b)
+-- no share has no row
+pub none-at : (b : ℕ) → share_in [] b ≡ []
+none-at zero = refl
+none-at (suc b) = refl
 
--- each row has a bucket
-pub length-buckets : (keys : List ℕ) (place : ℕ) (rows : List (List Value)) → length (buckets_from keys place rows) ≡ length rows
-length-buckets keys place [] = refl
-length-buckets keys place (row ∷ rows) = ap suc (length-buckets keys (place + 1) rows)
+-- one empty share more
+pub none-pushed : (shares : List (List (Bor (List Value)))) → ((b : ℕ) → share_in shares b ≡ []) → (b : ℕ) → share_in (shares ++ [] ∷ []) b ≡ []
+none-pushed [] none zero = refl
+none-pushed [] none (suc b) = refl
+none-pushed (share ∷ shares) none zero = none 0
+none-pushed (share ∷ shares) none (suc b) = none-pushed shares (λ k. none (suc k)) b
 
--- the members of one row and of those behind it
-pub members-cons : (bucket : ℕ) (buckets : List ℕ) (row : List Value) (rows : List (List Value)) (b : ℕ) → members (bucket ∷ []) (row ∷ []) b ++ members buckets rows b ≡ members (bucket ∷ buckets) (row ∷ rows) b
-members-cons bucket buckets row rows b = by (bucket == b)
+-- of the rows from a place on go to a bucket the row there, if it is of the bucket, and those behind it
+one-more : (keys : List ℕ) (rows : List (List Value)) (place b : ℕ) (d : List Value) → place < length rows
+    → share_from keys place (drop place rows) b ≡ cond (bucket_at keys place (slice_index_or rows place d) == b) (slice_index_or rows place d ∷ share_from keys (place + 1) (drop (place + 1) rows) b) (share_from keys (place + 1) (drop (place + 1) rows) b)
+one-more keys rows place b d within =
+    ap (λ (rest : List (List Value)). share_from keys place rest b) (drop-cons rows place d within)
+    ∙ ap (λ (n : ℕ). cond (bucket_at keys place (slice_index_or rows place d) == b) (slice_index_or rows place d ∷ share_from keys (place + 1) (drop n rows) b) (share_from keys (place + 1) (drop n rows) b)) (sym (add-one place))
+
+-- a row more has gone to its bucket, and those behind it are left
+pub row-added : (keys : List ℕ) (rows : List (List Value)) (place bucket b : ℕ) (d : List Value) (old new : List (List Value)) → place < length rows
+    → bucket ≡ bucket_at keys place (slice_index_or rows place d) → (b ≡ bucket → new ≡ old ++ slice_index_or rows place d ∷ []) → (b ≢ bucket → new ≡ old)
+    → old ++ share_from keys place (drop place rows) b ≡ share_from keys 0 rows b → new ++ share_from keys (place + 1) (drop (place + 1) rows) b ≡ share_from keys 0 rows b
+row-added keys rows place bucket b d old new within is added others before = by (eqb_tells (bucket_at keys place (slice_index_or rows place d)) b)
   where
-    by : (here : Bool) → cond here (row ∷ []) [] ++ members buckets rows b ≡ cond here (row ∷ members buckets rows b) (members buckets rows b)
-    by true = refl
-    by false = refl
-
--- the bucket of the row in its place, and then those of the rows behind it
-pub buckets-more : (keys : List ℕ) (place : ℕ) (rows : List (List Value)) (d : List Value) → place < length rows
-    → buckets_from keys place (drop place rows) ≡ bucket_at keys place (slice_index_or rows place d) ∷ buckets_from keys (place + 1) (drop (place + 1) rows)
-buckets-more keys place rows d within =
-    ap (buckets_from keys place) (drop-cons rows place d within)
-    ∙ ap (λ (n : ℕ). bucket_at keys place (slice_index_or rows place d) ∷ buckets_from keys (place + 1) (drop n rows)) (sym (add-one place))
-
--- the row in its place, if it is of the bucket, and then those behind it
-pub members-more : (buckets : List ℕ) (rows : List (List Value)) (i b k : ℕ) (d : List Value) → i < length buckets → i < length rows
-    → members (drop i buckets) (drop i rows) b ≡ members (slice_index_or buckets i k ∷ []) (slice_index_or rows i d ∷ []) b ++ members (drop (i + 1) buckets) (drop (i + 1) rows) b
-members-more buckets rows i b k d first second =
-    (λ j. members (drop-cons buckets i k first j) (drop-cons rows i d second j) b)
-    ∙ sym (members-cons (slice_index_or buckets i k) (drop (suc i) buckets) (slice_index_or rows i d) (drop (suc i) rows) b)
-    ∙ ap (λ (n : ℕ). members (slice_index_or buckets i k ∷ []) (slice_index_or rows i d ∷ []) b ++ members (drop n buckets) (drop n rows) b) (sym (add-one i))
+    by : (((bucket_at keys place (slice_index_or rows place d) == b) ≡ true) × (bucket_at keys place (slice_index_or rows place d) ≡ b)) ⊎ (((bucket_at keys place (slice_index_or rows place d) == b) ≡ false) × (bucket_at keys place (slice_index_or rows place d) ≢ b))
+        → new ++ share_from keys (place + 1) (drop (place + 1) rows) b ≡ share_from keys 0 rows b
+    by (inl here) =
+        let row : List Value = slice_index_or rows place d in
+        let rest : List (List Value) = share_from keys (place + 1) (drop (place + 1) rows) b in
+        let more : share_from keys place (drop place rows) b ≡ row ∷ rest = one-more keys rows place b d within ∙ ap (λ (test : Bool). cond test (row ∷ rest) rest) here.0 in
+        ap (λ (l : List (List Value)). l ++ rest) (added (sym here.1 ∙ sym is)) ∙ append_assoc old (row ∷ []) rest ∙ ap (λ (l : List (List Value)). old ++ l) (sym more) ∙ before
+    by (inr other) =
+        let row : List Value = slice_index_or rows place d in
+        let rest : List (List Value) = share_from keys (place + 1) (drop (place + 1) rows) b in
+        let more : share_from keys place (drop place rows) b ≡ rest = one-more keys rows place b d within ∙ ap (λ (test : Bool). cond test (row ∷ rest) rest) other.0 in
+        ap (λ (l : List (List Value)). l ++ rest) (others (λ e. other.1 (sym is ∙ sym e))) ∙ ap (λ (l : List (List Value)). old ++ l) (sym more) ∙ before
 
 -- what holds of all rows holds of a bucket's
-pub All-members : (P : List Value → Type 0) (buckets : List ℕ) (rows : List (List Value)) (b : ℕ) → All P rows → All P (members buckets rows b)
-All-members P [] rows b all = All-nil P
-All-members P (bucket ∷ buckets) [] b all = All-nil P
-All-members P (bucket ∷ buckets) (row ∷ rows) b all = by (bucket == b) (All-members P buckets rows b (λ k d within. all (suc k) d (omega (arith, within))))
+pub All-share : (P : List Value → Type 0) (keys : List ℕ) (place : ℕ) (rows : List (List Value)) (b : ℕ) → All P rows → All P (share_from keys place rows b)
+All-share P keys place [] b all = All-nil P
+All-share P keys place (row ∷ rows) b all = by (bucket_at keys place row == b) (All-share P keys (place + 1) rows b (λ k d within. all (suc k) d (omega (arith, within))))
   where
-    by : (here : Bool) → All P (members buckets rows b) → All P (cond here (row ∷ members buckets rows b) (members buckets rows b))
-    by true rest = All-cons P row (members buckets rows b) (all 0 row (omega arith)) rest
+    by : (here : Bool) → All P (share_from keys (place + 1) rows b) → All P (cond here (row ∷ share_from keys (place + 1) rows b) (share_from keys (place + 1) rows b))
+    by true rest = All-cons P row (share_from keys (place + 1) rows b) (all 0 row (omega arith)) rest
     by false rest = rest

@@ -7,7 +7,7 @@ use Rattle.hq_value.specs.declared.kind.Kind.{Kind}
 use Rattle.hq_value.specs.Bucket.{Buckets}
 use Rattle.hq_lane.specs.Lanes.{PartState, no_part, part_at, file_of, HaveSameHeads}
 use Rattle.hq_txn.proofs.Growing.{begun-none}
-use Rattle.hq_txn.specs.Parts.{HasSameHead, BeginsPart, UnlessHost, IsNoFault}
+use Rattle.hq_txn.specs.Parts.{HasSameHead, BeginsPart, UnlessHost, UnlessStore, IsNoFault}
 use Rattle.hq_txn.specs.declared.task.Trouble.{Trouble}
 use Rattle.hq_txn.specs.declared.task.Trouble.TheVariants as trouble
 
@@ -58,6 +58,19 @@ no-fault (Ok done) P fine holds = holds
 no-fault (Err trouble.Host) P fine holds = absurd fine
 no-fault (Err trouble.Store) P fine holds = holds
 no-fault (Err trouble.NoMemory) P fine holds = holds
+
+-- and its store did not
+pub no-store-fault : (outcome : Result Unit Trouble) (P : Type 0) → IsNoFault outcome → UnlessStore outcome P → P
+no-store-fault (Ok done) P fine holds = holds
+no-store-fault (Err trouble.Host) P fine holds = absurd fine
+no-store-fault (Err trouble.Store) P fine holds = absurd fine
+no-store-fault (Err trouble.NoMemory) P fine holds = holds
+
+-- a fact but where the store failed, of a trouble that is none of the host
+pub unless-store : (why : Trouble) (P : Type 0) → (why ≡ trouble.Host → ⊥) → (why ≡ trouble.NoMemory → P) → UnlessStore (Err why) P
+unless-store trouble.Host P other holds = absurd (other refl)
+unless-store trouble.Store P other holds = tt
+unless-store trouble.NoMemory P other holds = holds refl
 
 -- what holds of the parts of the tasks before and after, and of each part and itself, holds of all
 pub all-parts : {X : Type 0} (part : X → PartState) (R : PartState → PartState → Type 0) (xs ys : List X) (rest before after : List PartState) → length ys ≡ length xs → map part xs ++ rest ≡ before → after ≡ map part ys ++ rest

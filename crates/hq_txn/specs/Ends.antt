@@ -3,7 +3,10 @@
 --     AnswerBefore used old new answered n             so it is of the used nodes before n
 --     StoreFailed used old new answered rose           `rose` holds of the bench of a used node, the first with a fault
 --     HostFailed used old new answered rose node       so it does of this node's
-use Rattle.std.specs.Prelude.{ℕ, ◌+◌, ◌<◌, List, length}
+--     AreWholeBefore marks lane node                   the files of the nodes before this one are not torn: no append of theirs failed
+use Rattle.std.specs.Prelude.{◌≡◌, ℕ, ◌+◌, ◌<◌, Bool, false, List, length}
+use Rattle.hq_detect.specs.Assign.{owner_of}
+use Rattle.hq_lane.specs.Lanes.{LaneState, file_of}
 use Rattle.hq_txn.specs.Each.{At}
 
 -- the hosts of the used nodes before n were checked and did not fail
@@ -24,3 +27,7 @@ pub record HostFailed {B : Type 0} (used : ℕ → Type 0) (old new : List B) (a
   pub is_used : used node
   pub count_rose : At node old new rose
   pub lowest : AnswerBefore used old new answered node
+
+-- none of the files of the nodes before n is torn: no append of theirs failed
+abbrev pub AreWholeBefore : List Bool → LaneState → ℕ → Type 0
+AreWholeBefore marks lane n = (b : ℕ) → b < 16 → owner_of marks b < n → (file_of lane.files b).torn ≡ false

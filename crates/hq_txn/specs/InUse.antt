@@ -1,4 +1,4 @@
--- The nodes that a write uses, and their hosts.
+-- The nodes that a write uses, their hosts and stores.
 --     IsInUse marks n                       node n owns a bucket
 --     HasAnswered checks faults old new     the host was checked and did not fail
 --     HasFailed faults old new              its count of faults rose
@@ -16,3 +16,7 @@ pub record IsInUse (marks : List Bool) (n : ℕ) : Type 0 where
 pub record HasAnswered {H : Type 0} (checks faults : H → ℕ) (old new : H) : Type 0 where
   pub checked : Rose (checks old) (checks new)
   pub held : faults new ≡ faults old
+
+-- its count of faults rose
+abbrev pub HasFailed : {X : Type 0} → (X → ℕ) → X → X → Type 0
+HasFailed faults old new = Rose (faults old) (faults new)

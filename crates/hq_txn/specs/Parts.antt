@@ -45,6 +45,13 @@ UnlessHost (Err trouble.Host) P = Unit {0}
 UnlessHost (Err trouble.Store) P = P
 UnlessHost (Err trouble.NoMemory) P = P
 
+-- a fact but where the store failed
+abbrev pub UnlessStore : Result Unit Trouble → Type 0 → Type 0
+UnlessStore (Ok done) P = P
+UnlessStore (Err trouble.Host) P = P
+UnlessStore (Err trouble.Store) P = Unit {0}
+UnlessStore (Err trouble.NoMemory) P = P
+
 -- it went well, or memory was wanted
 abbrev pub IsNoFault : Result Unit Trouble → Type 0
 IsNoFault (Ok done) = Unit {0}

@@ -5,7 +5,7 @@ use Rattle.hq_value.specs.declared.kind.Kind.{Kind}
 use Rattle.hq_value.specs.Bucket.{Buckets}
 use Rattle.hq_value.specs.Causes.{Rose, IsSteady, GoesOn}
 use Rattle.hq_txn.specs.InUse.{HasAnswered}
-use Rattle.hq_txn.specs.Parts.{IsUsed, HasSameHead, WritesPart, BeginsPart, UnlessHost}
+use Rattle.hq_txn.specs.Parts.{IsUsed, HasSameHead, IsWholePart, WritesPart, BeginsPart, UnlessHost, UnlessStore}
 use Rattle.hq_txn.specs.declared.task.Task.{Task}
 use Rattle.hq_txn.specs.declared.task.Trouble.TheVariants as trouble
 
@@ -14,6 +14,7 @@ pub record HasRun {S H L F Z : Type 0} (told : Bool) (kinds : List Kind) (shares
   pub head : HasSameHead old.part.value new.part.value
   pub written : OnOk new.outcome (WritesPart told kinds shares old.part.value new.part.value)
   pub begun : BeginsPart told kinds shares old.part.value new.part.value
+  pub whole : UnlessStore new.outcome (IsWholePart new.part.value)
   pub link : new.bench.link ≡ old.bench.link
   pub unused : (IsUsed old.part.value → ⊥) → new.bench ≡ old.bench
   pub answered : UnlessHost new.outcome (IsUsed old.part.value → HasAnswered checks host_faults old.bench.host new.bench.host)

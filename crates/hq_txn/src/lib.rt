@@ -2,11 +2,10 @@
 //! commit or an abort.
 #![tactic(auto)]
 
-mod buckets;
 mod lanes;
 mod moves;
 mod prepare;
-mod share;
+mod shares;
 mod state;
 mod task;
 mod tasks;

@@ -4,11 +4,11 @@ ghost use Rattle.hq_value.specs.Causes.{Rose, IsSteady, GoesOn};
 ghost use Rattle.hq_value.specs.Kinds.{Fits, kinds_of};
 ghost use Rattle.hq_value.specs.Marks.{some_up};
 ghost use Rattle.hq_lane.specs.BucketFiles.{KeepsBase, StaysIfClean};
-ghost use Rattle.hq_lane.specs.Lanes.{AreClean, HaveNoSeal, EachFile};
+ghost use Rattle.hq_lane.specs.Lanes.{AreClean, AreWhole, HaveNoSeal, EachFile};
 ghost use Rattle.hq_clean.specs.Sweeps.{Swept};
 ghost use Rattle.hq_txn.specs.Each.{At, Each};
-ghost use Rattle.hq_txn.specs.Ends.{StoreFailed, HostFailed};
-ghost use Rattle.hq_txn.specs.InUse.{IsInUse, HasAnswered};
+ghost use Rattle.hq_txn.specs.Ends.{StoreFailed, HostFailed, AreWholeBefore};
+ghost use Rattle.hq_txn.specs.InUse.{IsInUse, HasAnswered, HasFailed};
 ghost use Rattle.hq_txn.specs.Transactions.{lane_at, has_lane, lane_of, with_lane, IsPrepared, IsUnsealed};
 ghost use Rattle.hq_txn.specs.Writes.{AddsRows, AddsFirst, GainsRows};
 
@@ -198,8 +198,8 @@ impl<F: StoredFile, Z: SealCopy> Txn<F, Z> {
 
 impl<F: StoredFile + Send, Z: SealCopy + Send> Txn<F, Z> {
     /// Writes rows of the table to its lane, each to the file of its bucket, in their order. All nodes that own a bucket write
-    /// at once, each after one check of its host. At any error whole blocks of each bucket's first rows stand behind what was
-    /// there, and the transaction has failed and keeps its lanes.
+    /// at once, where there are rows enough for threads, each after one check of its host. At any error whole blocks of each
+    /// bucket's first rows stand behind what was there, and the transaction has failed and keeps its lanes.
     pub fn write<R, S, H, L>(
         &mut self,
         rt: &R,
@@ -225,6 +225,8 @@ impl<F: StoredFile + Send, Z: SealCopy + Send> Txn<F, Z> {
         ensures written { OnOk result (AddsRows F.tells def.now rows.now (lane_of self.old.lanes table) (lane_of self.new.lanes table)) }
         ensures rows { OnOk result (GainsRows F.tells def.now rows.now (lane_of self.old.lanes table) (lane_of self.new.lanes table)) }
         ensures first { AddsFirst F.tells def.now rows.now (lane_of self.old.lanes table) (lane_of self.new.lanes table) }
+        ensures whole { IsErrOf result WriteEnd.NoMemory → AreWhole (lane_of self.new.lanes table).files }
+        ensures whole_before { (n : ℕ) → IsErrOf result (WriteEnd.Host n) → AreWholeBefore marks.now (lane_of self.new.lanes table) n }
 
         ensures count { length benches.new.items ≡ length benches.old.items }
         ensures links { Each benches.old.items benches.new.items (λ a b. b.link ≡ a.link) }
@@ -232,9 +234,9 @@ impl<F: StoredFile + Send, Z: SealCopy + Send> Txn<F, Z> {
         ensures answered { OnOk result ((n : ℕ) → IsInUse marks.now n
             → At n benches.old.items benches.new.items (λ a b. HasAnswered H.checks H.faults a.host b.host)) }
         ensures store_cause { IsErrOf result WriteEnd.Store → StoreFailed (IsInUse marks.now) benches.old.items benches.new.items
-            (λ a b. HasAnswered H.checks H.faults a.host b.host) (λ a b. Rose (S.faults a.store) (S.faults b.store)) }
+            (λ a b. HasAnswered H.checks H.faults a.host b.host) (λ a b. HasFailed S.faults a.store b.store) }
         ensures host_cause { (n : ℕ) → IsErrOf result (WriteEnd.Host n) → HostFailed (IsInUse marks.now) benches.old.items benches.new.items
-            (λ a b. HasAnswered H.checks H.faults a.host b.host) (λ a b. Rose (H.faults a.host) (H.faults b.host)) n }
+            (λ a b. HasAnswered H.checks H.faults a.host b.host) (λ a b. HasFailed H.faults a.host b.host) n }
         ensures no_memory { IsErrOf result WriteEnd.NoMemory → Each benches.old.items benches.new.items (λ a b. H.faults b.host ≡ H.faults a.host) }
         ensures hosts { Each benches.old.items benches.new.items (λ a b. IsSteady H.faults H.sound a.host b.host) }
         ensures stores { Each benches.old.items benches.new.items (λ a b. GoesOn S.faults S.given S.sound a.store b.store) }

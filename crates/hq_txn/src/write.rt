@@ -1,17 +1,17 @@
 //! Rows written to one lane.
 ghost use Rattle.std.specs.Prelude.{◌≡◌, ◌<◌, ◌≤◌, ℕ, All, length, vec_len, slice_index, IfOk, IsTrue, OnOk, OnErr, IsErrOf};
-ghost use Rattle.hq_value.specs.Causes.{Rose, IsSteady, GoesOn};
+ghost use Rattle.hq_value.specs.Causes.{IsSteady, GoesOn};
 ghost use Rattle.hq_value.specs.Kinds.{Fits, kinds_of};
 ghost use Rattle.hq_value.specs.Marks.{some_up};
 ghost use Rattle.hq_detect.specs.Assign.{owner_of};
 ghost use Rattle.hq_lane.specs.Lanes.{LaneState, file_of, AreWhole};
 ghost use Rattle.hq_txn.specs.Each.{At, Each};
-ghost use Rattle.hq_txn.specs.Ends.{StoreFailed, HostFailed};
-ghost use Rattle.hq_txn.specs.InUse.{IsInUse, HasAnswered};
-ghost use Rattle.hq_txn.specs.Members.{members};
+ghost use Rattle.hq_txn.specs.Ends.{StoreFailed, HostFailed, AreWholeBefore};
+ghost use Rattle.hq_txn.specs.InUse.{IsInUse, HasAnswered, HasFailed};
+ghost use Rattle.hq_txn.specs.Shares.{share_in};
 ghost use Rattle.hq_txn.specs.Writes.{IsWritten, IsBegun, AddsRows, AddsFirst, GainsRows};
 
-use crate::buckets::buckets_of;
+use crate::shares::{Share, shares_of};
 use crate::state::WriteEnd;
 use crate::tasks::write_parts;
 use hq_detect::{Benches, Host, assign};
@@ -41,8 +41,7 @@ fn write_shares<R, F, Z, S, H, L>(
     benches: &mut Benches<S, H, L>,
     marks: &Marks,
     kinds: &Kinds,
-    buckets: &[u8],
-    rows: &[Row],
+    shares: &[Share],
 ) -> (Lane<F, Z>, Result<(), WriteEnd>)
 where
     R: Threads + Sync,
@@ -56,13 +55,15 @@ where
     requires nodes { vec_len benches.old ≡ length marks.now }
     requires some_kinds { 0 < length kinds.now }
     requires few_kinds { length kinds.now ≤ 64 }
-    requires buckets { length buckets.now ≡ length rows.now }
-    requires fit { All (Fits kinds.now) rows.now }
+    requires shares { length shares.now ≡ 16 }
+    requires fit { (b : ℕ) → b < 16 → All (Fits kinds.now) (share_in shares.now b) }
     ensures table { result.0.table ≡ lane.table }
     ensures number { result.0.number ≡ lane.number }
     ensures written { OnOk result.1 ((b : ℕ) → b < 16
-        → IsWritten F.tells kinds.now (members buckets.now rows.now b) (file_of lane.files b) (file_of result.0.files b)) }
-    ensures begun { (b : ℕ) → b < 16 → IsBegun F.tells kinds.now (members buckets.now rows.now b) (file_of lane.files b) (file_of result.0.files b) }
+        → IsWritten F.tells kinds.now (share_in shares.now b) (file_of lane.files b) (file_of result.0.files b)) }
+    ensures begun { (b : ℕ) → b < 16 → IsBegun F.tells kinds.now (share_in shares.now b) (file_of lane.files b) (file_of result.0.files b) }
+    ensures whole { IsErrOf result.1 WriteEnd.NoMemory → AreWhole result.0.files }
+    ensures whole_before { (n : ℕ) → IsErrOf result.1 (WriteEnd.Host n) → AreWholeBefore marks.now result.0 n }
 
     ensures count { vec_len benches.new ≡ vec_len benches.old }
     ensures links { Each benches.old.items benches.new.items (λ a b. b.link ≡ a.link) }
@@ -70,9 +71,9 @@ where
     ensures answered { OnOk result.1 ((n : ℕ) → IsInUse marks.now n
         → At n benches.old.items benches.new.items (λ a b. HasAnswered H.checks H.faults a.host b.host)) }
     ensures store_cause { IsErrOf result.1 WriteEnd.Store → StoreFailed (IsInUse marks.now) benches.old.items benches.new.items
-        (λ a b. HasAnswered H.checks H.faults a.host b.host) (λ a b. Rose (S.faults a.store) (S.faults b.store)) }
+        (λ a b. HasAnswered H.checks H.faults a.host b.host) (λ a b. HasFailed S.faults a.store b.store) }
     ensures host_cause { (n : ℕ) → IsErrOf result.1 (WriteEnd.Host n) → HostFailed (IsInUse marks.now) benches.old.items benches.new.items
-        (λ a b. HasAnswered H.checks H.faults a.host b.host) (λ a b. Rose (H.faults a.host) (H.faults b.host)) n }
+        (λ a b. HasAnswered H.checks H.faults a.host b.host) (λ a b. HasFailed H.faults a.host b.host) n }
     ensures no_memory { IsErrOf result.1 WriteEnd.NoMemory → Each benches.old.items benches.new.items (λ a b. H.faults b.host ≡ H.faults a.host) }
     ensures hosts { Each benches.old.items benches.new.items (λ a b. IsSteady H.faults H.sound a.host b.host) }
     ensures stores { Each benches.old.items benches.new.items (λ a b. GoesOn S.faults S.given S.sound a.store b.store) }
@@ -82,7 +83,7 @@ where
         Err((lane, NoMemory)) => (lane, Err(WriteEnd::NoMemory)),
         Ok(parts) => {
             let mut parts = parts;
-            let end = write_parts(rt, alloc, benches, &mut parts, kinds, buckets, rows);
+            let end = write_parts(rt, alloc, benches, &mut parts, kinds, shares);
             parts_make_a_lane();
             (LanePart::whole(parts), end)
         }
@@ -131,6 +132,8 @@ where
     ensures number { lane.new.number ≡ lane.old.number }
     ensures written { OnOk result (AddsRows F.tells def.now rows.now lane.old lane.new) }
     ensures first { AddsFirst F.tells def.now rows.now lane.old lane.new }
+    ensures whole { IsErrOf result WriteEnd.NoMemory → AreWhole lane.new.files }
+    ensures whole_before { (n : ℕ) → IsErrOf result (WriteEnd.Host n) → AreWholeBefore marks.now lane.new n }
 
     ensures count { vec_len benches.new ≡ vec_len benches.old }
     ensures links { Each benches.old.items benches.new.items (λ a b. b.link ≡ a.link) }
@@ -138,9 +141,9 @@ where
     ensures answered { OnOk result ((n : ℕ) → IsInUse marks.now n
         → At n benches.old.items benches.new.items (λ a b. HasAnswered H.checks H.faults a.host b.host)) }
     ensures store_cause { IsErrOf result WriteEnd.Store → StoreFailed (IsInUse marks.now) benches.old.items benches.new.items
-        (λ a b. HasAnswered H.checks H.faults a.host b.host) (λ a b. Rose (S.faults a.store) (S.faults b.store)) }
+        (λ a b. HasAnswered H.checks H.faults a.host b.host) (λ a b. HasFailed S.faults a.store b.store) }
     ensures host_cause { (n : ℕ) → IsErrOf result (WriteEnd.Host n) → HostFailed (IsInUse marks.now) benches.old.items benches.new.items
-        (λ a b. HasAnswered H.checks H.faults a.host b.host) (λ a b. Rose (H.faults a.host) (H.faults b.host)) n }
+        (λ a b. HasAnswered H.checks H.faults a.host b.host) (λ a b. HasFailed H.faults a.host b.host) n }
     ensures no_memory { IsErrOf result WriteEnd.NoMemory → Each benches.old.items benches.new.items (λ a b. H.faults b.host ≡ H.faults a.host) }
     ensures hosts { Each benches.old.items benches.new.items (λ a b. IsSteady H.faults H.sound a.host b.host) }
     ensures stores { Each benches.old.items benches.new.items (λ a b. GoesOn S.faults S.given S.sound a.store b.store) }
@@ -149,11 +152,11 @@ where
     let Ok(kinds) = kinds_of(alloc, def.columns().as_slice()) else {
         return Err(WriteEnd::NoMemory);
     };
-    let Ok(buckets) = buckets_of(alloc, def, rows) else {
+    let Ok(shares) = shares_of(alloc, def, rows) else {
         return Err(WriteEnd::NoMemory);
     };
     let taken = take_out(alloc, lane);
-    let (whole, end) = write_shares(rt, alloc, taken, benches, marks, &kinds, &buckets, rows);
+    let (whole, end) = write_shares(rt, alloc, taken, benches, marks, &kinds, &shares);
     put_back(lane, whole);
     end
 }

@@ -1,14 +1,14 @@
 -- The lane's parts are written and put together again.
-use Rattle.std.proofs.Common.{◌≡◌, ◌<◌, ℕ, length, vec_len, slice_index, arith, ap}
+use Rattle.std.proofs.Common.{◌≡◌, ◌<◌, ℕ, length, vec_len, slice_index, arith, ap, subst, sym}
 use Rattle.std.proofs.lemmas.Result.{on_ok_weaker}
-use Rattle.hq_lane.specs.Lanes.{LaneState, file_of, part_at, file_in}
+use Rattle.hq_lane.specs.Lanes.{LaneState, file_of, part_at, file_in, AreWhole}
 use Rattle.hq_txn.specs.Each.{At}
 use Rattle.hq_txn.specs.InUse.{HasAnswered}
-use Rattle.hq_txn.specs.Members.{members}
+use Rattle.hq_txn.specs.Shares.{share_in}
 use Rattle.hq_txn.specs.Parts.{IsUsed, WritesPart}
 use Rattle.hq_txn.proofs.Counting.{in_use-below}
 use Rattle.hq_txn.proofs.Growing.{begun-none}
-use Rattle.hq_txn.proofs.Joining.{whole-part, used-in_use, in_use-used, file-written, file-begun}
+use Rattle.hq_txn.proofs.Joining.{whole-part, used-in_use, in_use-used, file-written, file-begun, file-whole}
 use Rattle.hq_txn.proofs.write.write_shares.Goals as goal
 
 pub part-requires : goal.part-requires
@@ -27,7 +27,7 @@ write_parts-end-requires-after_bounds g c κs within =
             (
               c.requires.few_kinds,
               (
-                c.requires.buckets,
+                c.requires.shares,
                 (
                   c.requires.fit,
                   λ n h. whole-part c.args.lane c.owners-owner.result c.in-Ok.parts.items are c.requires.whole n (omega (arith, h, are.sixteen)),
@@ -40,7 +40,7 @@ write_parts-end-requires-after_bounds g c κs within =
     )
 
 pub returns-in-Err-clause-begun : goal.returns-in-Err-clause-begun
-returns-in-Err-clause-begun g c = λ b within. begun-none g.F.StoredFile.tells c.args.kinds.now (members c.args.buckets.now c.args.rows.now b) (file_of c.args.lane.files b) (file_of c.in-Err.lane.files b) (ap (λ (l : LaneState). file_of l.files b) c.in-Err.ensures.back)
+returns-in-Err-clause-begun g c = λ b within. begun-none g.F.StoredFile.tells c.args.kinds.now (share_in c.args.shares.now b) (file_of c.args.lane.files b) (file_of c.in-Err.lane.files b) (ap (λ (l : LaneState). file_of l.files b) c.in-Err.ensures.back)
 
 pub whole-requires : goal.whole-requires
 whole-requires g c =
@@ -90,8 +90,8 @@ returns-in-Ok-clause-written g c =
     let below : (b : ℕ) → b < 16 → slice_index owner b < 16 = λ b within. omega (arith, c.owners-owner.ensures.there b within, c.owners-owner.ensures.few) in
     let back : (b : ℕ) → b < 16 → file_of c.whole.result.files b ≡ file_in new (slice_index owner b) b = c.parts_make_a_lane.ensures.places lane c.whole.result owner parts new below are c.write_parts-end.ensures.heads c.whole.ensures in
     on_ok_weaker c.write_parts-end.result
-    (λ (wrote : (n : ℕ) → n < vec_len c.args.benches.now → WritesPart g.F.StoredFile.tells c.args.kinds.now (members c.args.buckets.now c.args.rows.now) (part_at parts n) (part_at new n)) b within.
-    file-written lane owner parts are new c.whole.result g.F.StoredFile.tells c.args.kinds.now (members c.args.buckets.now c.args.rows.now) below back b within (wrote (slice_index owner b) (omega (arith, c.owners-owner.ensures.there b within, c.requires.nodes))))
+    (λ (wrote : (n : ℕ) → n < vec_len c.args.benches.now → WritesPart g.F.StoredFile.tells c.args.kinds.now (share_in c.args.shares.now) (part_at parts n) (part_at new n)) b within.
+    file-written lane owner parts are new c.whole.result g.F.StoredFile.tells c.args.kinds.now (share_in c.args.shares.now) below back b within (wrote (slice_index owner b) (omega (arith, c.owners-owner.ensures.there b within, c.requires.nodes))))
     c.write_parts-end.ensures.written
 
 pub returns-in-Ok-clause-begun : goal.returns-in-Ok-clause-begun
@@ -105,7 +105,7 @@ returns-in-Ok-clause-begun g c =
     let is = c.owners-owner.ensures.owner in
     let below : (b : ℕ) → b < 16 → slice_index owner b < 16 = λ b within. omega (arith, c.owners-owner.ensures.there b within, c.owners-owner.ensures.few) in
     let back : (b : ℕ) → b < 16 → file_of c.whole.result.files b ≡ file_in new (slice_index owner b) b = c.parts_make_a_lane.ensures.places lane c.whole.result owner parts new below are c.write_parts-end.ensures.heads c.whole.ensures in
-    λ b within. file-begun lane owner parts are new c.whole.result g.F.StoredFile.tells c.args.kinds.now (members c.args.buckets.now c.args.rows.now) below back b within (c.write_parts-end.ensures.begun (slice_index owner b))
+    λ b within. file-begun lane owner parts are new c.whole.result g.F.StoredFile.tells c.args.kinds.now (share_in c.args.shares.now) below back b within (c.write_parts-end.ensures.begun (slice_index owner b))
 
 pub returns-in-Ok-clause-unused : goal.returns-in-Ok-clause-unused
 returns-in-Ok-clause-unused g c =
@@ -172,3 +172,36 @@ returns-in-Ok-clause-store_cause g c =
       count_rose = failed.count_rose;
       lowest = λ k less used. failed.lowest k less (in_use-used lane owner parts are marks is below k used);
     }
+
+pub returns-in-Err-clause-whole : goal.returns-in-Err-clause-whole
+returns-in-Err-clause-whole g c = λ err. subst (λ (l : LaneState). AreWhole l.files) (sym c.in-Err.ensures.back) c.requires.whole
+
+pub returns-in-Ok-clause-whole : goal.returns-in-Ok-clause-whole
+returns-in-Ok-clause-whole g c =
+    let lane = c.args.lane in
+    let owner = c.owners-owner.result in
+    let parts = c.in-Ok.parts.items in
+    let new = c.write_parts-end.new.parts.items in
+    let are = c.in-Ok.ensures.parts in
+    let marks = c.args.marks.now in
+    let is = c.owners-owner.ensures.owner in
+    let below : (b : ℕ) → b < 16 → slice_index owner b < 16 = λ b within. omega (arith, c.owners-owner.ensures.there b within, c.owners-owner.ensures.few) in
+    let back : (b : ℕ) → b < 16 → file_of c.whole.result.files b ≡ file_in new (slice_index owner b) b = c.parts_make_a_lane.ensures.places lane c.whole.result owner parts new below are c.write_parts-end.ensures.heads c.whole.ensures in
+    λ err b within.
+    file-whole lane owner parts are new c.whole.result g.F.StoredFile.tells c.args.kinds.now (share_in c.args.shares.now) below back c.write_parts-end.ensures.heads b within
+    (c.write_parts-end.ensures.whole err (slice_index owner b) (omega (arith, c.owners-owner.ensures.there b within, c.requires.nodes)))
+
+pub returns-in-Ok-clause-whole_before : goal.returns-in-Ok-clause-whole_before
+returns-in-Ok-clause-whole_before g c =
+    let lane = c.args.lane in
+    let owner = c.owners-owner.result in
+    let parts = c.in-Ok.parts.items in
+    let new = c.write_parts-end.new.parts.items in
+    let are = c.in-Ok.ensures.parts in
+    let marks = c.args.marks.now in
+    let is = c.owners-owner.ensures.owner in
+    let below : (b : ℕ) → b < 16 → slice_index owner b < 16 = λ b within. omega (arith, c.owners-owner.ensures.there b within, c.owners-owner.ensures.few) in
+    let back : (b : ℕ) → b < 16 → file_of c.whole.result.files b ≡ file_in new (slice_index owner b) b = c.parts_make_a_lane.ensures.places lane c.whole.result owner parts new below are c.write_parts-end.ensures.heads c.whole.ensures in
+    λ n err b within less.
+    file-whole lane owner parts are new c.whole.result g.F.StoredFile.tells c.args.kinds.now (share_in c.args.shares.now) below back c.write_parts-end.ensures.heads b within
+    (c.write_parts-end.ensures.whole_before n err (slice_index owner b) (omega (arith, is b within, less)))

@@ -8,6 +8,7 @@ returns g c =
       head = ran.head;
       written = ran.written;
       begun = ran.begun;
+      whole = ran.whole;
       link = ran.link;
       unused = ran.unused;
       answered = ran.answered;

@@ -1,7 +1,8 @@
 -- The lane of the table is written in its place.
 use Rattle.std.proofs.Common.{◌≡◌, ◌∙◌, ◌<◌, List, length, slice_set, refl, sym, ap, subst, arith}
 use Rattle.std.proofs.lemmas.List.{get_or_default}
-use Rattle.hq_lane.specs.Lanes.{LaneState, HaveNoSeal}
+use Rattle.hq_lane.specs.Lanes.{LaneState, AreWhole, HaveNoSeal}
+use Rattle.hq_txn.specs.Ends.{AreWholeBefore}
 use Rattle.hq_txn.specs.Transactions.{no_lane, place_of}
 use Rattle.hq_txn.specs.Writes.{AddsRows, AddsFirst, GainsRows}
 use Rattle.hq_txn.proofs.Growing.{lane-gains}
@@ -80,3 +81,23 @@ returns-in-Ok-clause-rows g c =
     let found : place ≡ place_of lanes c.args.table = c.find_lane-place.ensures.place ∙ ap (λ (ls : List LaneState). place_of ls c.args.table) c.deref.ensures.value in
     let inside : place < length lanes = omega (arith, c.find_lane-place.ensures.within, ap length c.deref.ensures.value) in
     rw (← c.self.view_is) (carried lanes (slice_set lanes place lane) c.args.table place was lane found inside c.index_mut.ensures.value refl c.write_lane.ensures.table (GainsRows g.F.StoredFile.tells c.args.def.now c.args.rows.now) (lane-gains g.F.StoredFile.tells c.args.def.now c.args.rows.now was lane c.in-Ok.ensures.written))
+
+pub returns-in-Err-clause-whole : goal.returns-in-Err-clause-whole
+returns-in-Err-clause-whole g c =
+    let lanes = c.self.inside.lanes.items in
+    let place = c.find_lane-place.result in
+    let was = c.index_mut.result.now in
+    let lane = c.write_lane.new.lane in
+    let found : place ≡ place_of lanes c.args.table = c.find_lane-place.ensures.place ∙ ap (λ (ls : List LaneState). place_of ls c.args.table) c.deref.ensures.value in
+    let inside : place < length lanes = omega (arith, c.find_lane-place.ensures.within, ap length c.deref.ensures.value) in
+    λ err. carried lanes (slice_set lanes place lane) c.args.table place was lane found inside c.index_mut.ensures.value refl c.write_lane.ensures.table (λ _ l. AreWhole l.files) (c.in-Err.ensures.whole err)
+
+pub returns-in-Err-clause-whole_before : goal.returns-in-Err-clause-whole_before
+returns-in-Err-clause-whole_before g c =
+    let lanes = c.self.inside.lanes.items in
+    let place = c.find_lane-place.result in
+    let was = c.index_mut.result.now in
+    let lane = c.write_lane.new.lane in
+    let found : place ≡ place_of lanes c.args.table = c.find_lane-place.ensures.place ∙ ap (λ (ls : List LaneState). place_of ls c.args.table) c.deref.ensures.value in
+    let inside : place < length lanes = omega (arith, c.find_lane-place.ensures.within, ap length c.deref.ensures.value) in
+    λ n err. carried lanes (slice_set lanes place lane) c.args.table place was lane found inside c.index_mut.ensures.value refl c.write_lane.ensures.table (λ _ l. AreWholeBefore c.args.marks.now l n) (c.in-Err.ensures.whole_before n err)
