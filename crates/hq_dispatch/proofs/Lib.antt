@@ -1,0 +1,12 @@
+pub mod Apart
+pub mod Arriving
+pub mod Earlier
+pub mod Examples
+pub mod Flags
+pub mod Gathers
+pub mod Lasting
+pub mod Meaning
+pub mod Parceling
+pub mod Ranges
+pub mod Receiving
+pub mod Ups

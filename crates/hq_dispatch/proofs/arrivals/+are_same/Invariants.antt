@@ -1,0 +1,6 @@
+-- The kinds that are left.
+use Rattle.std.proofs.Common.{length}
+use Rattle.hq_dispatch.proofs.arrivals.+are_same.Given as goal
+
+abbrev pub decreases-are_same : goal.decreases-are_same
+decreases-are_same l = length l.a.now
