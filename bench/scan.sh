@@ -1,13 +1,14 @@
 #!/bin/sh
 # Fills a table in memory with 1,000,000 rows of one INT, by inserts of 100 or of 10,000 rows, and scans it, in the proved
 # layers alone: no statement is read, and nothing is sorted or printed. Prints processor seconds, rows and bytes a second,
-# and the peak memory beside the bytes of the table's files. Then the same rows as a script, in the program and, where it
-# is installed, in SQLite in memory.
+# and the peak memory beside the bytes of the table's files. A scan is timed twice: with fresh pages for its rows each
+# time, which the system clears, and with those of the scan before, which the C library is told to keep. Then the same
+# rows as a script, in the program and, where it is installed, in SQLite in memory.
 . "$(dirname "$0")/setup.sh"
 layers="$top/crates/hq_bench/out/hq_bench"
 [ -x "$layers" ] || (cd "$top/crates/hq_bench" && rt run -- table 100 10 1 >/dev/null)
 PYTHONPATH="$top/bench" python3 -B - "$work/fill.sql" "$program" "$layers" <<'PYTHON'
-import shutil, subprocess, sys
+import os, shutil, subprocess, sys
 from timed import measured
 
 script, program, layers = sys.argv[1:]
@@ -26,8 +27,11 @@ def tell(name, seconds, size):
     print("%-22s %6.3f s  %11s rows a second  %7.1f MB a second" % (name, seconds, format(int(ROWS / seconds), ","), size / seconds / 1e6))
 
 
-def run(*words):
-    return measured([layers, "table", *map(str, words)], stdout=subprocess.DEVNULL)
+def run(*words, **where):
+    return measured([layers, "table", *map(str, words)], stdout=subprocess.DEVNULL, **where)
+
+
+KEEPING = {**os.environ, "MALLOC_MMAP_MAX_": "0", "MALLOC_TRIM_THRESHOLD_": str(1 << 40)}
 
 
 nothing = run(0, 100, 0)
@@ -36,7 +40,9 @@ for at_once in (100, 10_000):
     filled, scanned = run(ROWS, at_once, 0), run(ROWS, at_once, SCANS)
     print("%d rows by inserts of %d: files of %.1f MiB" % (ROWS, at_once, size / 2**20))
     tell("inserted", filled.processor - nothing.processor, size)
-    tell("scanned", (scanned.processor - filled.processor) / SCANS, size)
+    tell("scanned, fresh pages", (scanned.processor - filled.processor) / SCANS, size)
+    once, again = run(ROWS, at_once, 1, env=KEEPING), run(ROWS, at_once, 1 + SCANS, env=KEEPING)
+    tell("scanned, kept pages", (again.processor - once.processor) / SCANS, size)
     grown = (filled.peak - nothing.peak) * 2**20
     print("the peak grew by %.1f MiB, which is %.2f of the files' bytes" % (grown / 2**20, grown / size))
 

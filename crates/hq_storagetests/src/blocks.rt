@@ -22,7 +22,8 @@ struct Case {
     bytes: Vec<u8>,
 }
 
-fn kinds_of(alloc: Global, text: &str) -> Result<Kinds, Fail> {
+/// The kinds that words name.
+pub fn kinds_of(alloc: Global, text: &str) -> Result<Kinds, Fail> {
     let mut kinds = Kinds::new(alloc);
     for word in text.split_whitespace() {
         kinds.push(match word {
