@@ -2,6 +2,7 @@ pub mod Asks
 pub mod CatStep
 pub mod Files
 pub mod History
+pub mod Kept
 pub mod Lanes
 pub mod Looks
 pub mod Stands

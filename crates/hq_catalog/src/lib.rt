@@ -4,9 +4,13 @@
 #![tactic(auto)]
 
 mod ask;
+mod books;
+mod catalogue;
 mod kept;
 mod laws;
+mod table;
 
 pub use ask::{Answer, Ask};
+pub use catalogue::Catalogue;
 pub use kept::{Change, Grown};
 pub use laws::others_change_nothing_that_may_be_asked;
