@@ -1,0 +1,15 @@
+pub mod Running
+pub mod Rows
+pub mod Feeds
+pub mod Carrying
+pub mod Meaning
+pub mod Leaves
+pub mod Passed
+pub mod Whole
+pub mod Runs
+pub mod Bad
+pub mod Examples
+pub mod Stays
+pub mod Roots
+pub mod Views
+pub mod Parted

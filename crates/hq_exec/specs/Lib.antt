@@ -1,0 +1,13 @@
+pub mod Builds
+pub mod Ends
+pub mod Faults
+pub mod Feeding
+pub mod Files
+pub mod Given
+pub mod Inputs
+pub mod Lines
+pub mod Outs
+pub mod Ran
+pub mod Skips
+pub mod Slices
+pub mod Stages
