@@ -1,6 +1,5 @@
 -- The tests of a source as one condition.
-use Rattle.std.proofs.Common.{◌≡◌, ℕ, zero, suc, ◌+◌, ◌-◌, ◌<◌, ◌≤◌, Bool, true, false, cond, ◌&&◌, not, List, [], ◌∷◌, ◌++◌, map, filter, flat_map, length, drop, get_or, Option, Some, None, refl, sym, ◌∙◌, ap, arith, drop-cons, Result, Ok, Err}
-use Rattle.std.specs.Result.{IfOk}
+use Rattle.std.proofs.Common.{◌≡◌, ℕ, zero, suc, ◌+◌, ◌-◌, ◌<◌, ◌≤◌, Bool, true, false, cond, ◌&&◌, not, List, [], ◌∷◌, ◌++◌, map, filter, flat_map, length, drop, get_or, Option, Some, None, refl, sym, ◌∙◌, ap, arith, drop-cons}
 use Rattle.std.proofs.lemmas.List.Elements.{filter-append}
 use Rattle.hq_value.specs.declared.kind.Kind.{Kind}
 use Rattle.hq_algebra.specs.declared.expr.Expr.{Expr}
@@ -71,11 +70,6 @@ none-Not kinds w others x = refl
 pub none-IsNull : (kinds : List Kind) (w : ℕ) (others : Option Expr) (x : Expr) → conjoined (lowered_tests kinds w (members (e.IsNull x))) others ≡ others
 unfolding hidden-the_row-Expr-0 hidden
 none-IsNull kinds w others x = refl
-
--- what is given is equal to what is asked
-pub if_ok-then : {A E : Type 0} (r : Result A E) (x y : A) → x ≡ y → IfOk r (λ a. a ≡ x) → IfOk r (λ a. a ≡ y)
-if_ok-then (Ok a) x y e h = h ∙ e
-if_ok-then (Err b) x y e h = tt
 
 drop-item : (es : List Expr) (i : ℕ) (x : Expr) → i < length es → x ≡ get_or es i x → drop i es ≡ x ∷ drop (suc i) es
 drop-item [] i x l h = absurd (omega (arith, l))

@@ -4,4 +4,5 @@ pub mod Nodes
 pub mod Numbers
 pub mod Plans
 pub mod Reordering
+pub mod Results
 pub mod Stepping

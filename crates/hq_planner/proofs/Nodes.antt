@@ -42,9 +42,6 @@ pub equates-And : (i j : ℕ) (x y : Expr) → equates i j (e.And x y) ≡ (equa
 unfolding hidden-the_row-Expr-0 hidden
 equates-And i j x y = refl
 
-pub same_two : (f : Expr → Expr → Expr) {a b x y : Expr} → a ≡ x → b ≡ y → f a b ≡ f x y
-same_two f p q = λ i. f (p i) (q i)
-
 -- one expression more
 take-one : (es : List Expr) (i : ℕ) (x : Expr) → i < length es → x ≡ get_or es i x → take (suc i) es ≡ take i es ++ x ∷ []
 take-one [] i x l h = absurd (omega (arith, l))

@@ -1,12 +1,14 @@
 -- Both plans serve their query, and what serves a query in another order serves it.
-use Rattle.std.proofs.Common.{◌≡◌, ℕ, ◌+◌, nat_le, Bool, true, false, not, ◌&&◌, ◌||◌, List, [], ◌∷◌, ◌++◌, length, map, Option, Some, is_some, refl, sym, ◌∙◌, ap, subst, IsTrue, arith, ◌<◌, ◌≤◌, drop, slice_index, suc}
+use Rattle.std.proofs.Common.{◌≡◌, ℕ, ◌+◌, nat_le, Bool, true, false, cond, not, ◌&&◌, ◌||◌, List, [], ◌∷◌, ◌++◌, length, map, Option, Some, is_some, refl, sym, ◌∙◌, ap, subst, IsTrue, arith, ◌<◌, ◌≤◌, drop, slice_index, suc}
 use Rattle.hq_value.specs.declared.kind.Kind.{Kind}
 use Rattle.hq_algebra.specs.declared.expr.Expr.{Expr}
 use Rattle.hq_algebra.specs.declared.query.Query.{Query}
 use Rattle.hq_algebra.specs.declared.plan.Plan.{Plan}
 use Rattle.hq_algebra.specs.Bound.{has_room, has_places, is_bound}
 use Rattle.hq_algebra.specs.Plans.{is_short}
-use Rattle.hq_algebra.specs.Queries.{query_kinds}
+use Rattle.hq_algebra.specs.Kinds.{◌>>=◌, some_if}
+use Rattle.hq_algebra.specs.Operators.{items_kinds}
+use Rattle.hq_algebra.specs.Queries.{product_kinds, group_kinds, are_conditions, query_kinds}
 use Rattle.hq_algebra.specs.Rules.{is_empty}
 use Rattle.hq_meaning.specs.Mean.{mean}
 use Rattle.hq_meaning.specs.Plans.{Parts, all_rows}
@@ -15,6 +17,7 @@ use Rattle.hq_laws.specs.Gathered.{gathered_plan, tables_of}
 use Rattle.hq_laws.specs.Placed.{stays_by, sides_stay, own_homes, homes_after}
 use Rattle.hq_laws.specs.Room.{kinds_sent, is_sendable}
 use Rattle.hq_laws.specs.Sources.{Source, SourcesStand, have_tests, fit_filters}
+use Rattle.hq_laws.specs.Spread as law
 use Rattle.hq_laws.specs.Spread.{Joining, source_of, sources_of, spread_plan}
 use Rattle.hq_laws.specs.Tests.{with_tests}
 use Rattle.hq_laws.specs.Turned.{FitTables}
@@ -31,11 +34,17 @@ use Rattle.hq_laws.proofs.Tested.{gathered-held, spread-held}
 use Rattle.hq_laws.proofs.Testing.{sources-stand, sources-fit}
 use Rattle.hq_laws.proofs.TurnedTests.{tests-turned}
 use Rattle.hq_laws.proofs.Turning.{mean-turned, tables-fit}
+use Rattle.hq_listing.specs.Listing.{listed, listing_plan}
+use Rattle.hq_listing.proofs.Form.{listing-well_formed}
+use Rattle.hq_listing.proofs.Means.{listing-plan-means}
+use Rattle.hq_listing.proofs.Tested.{listing-held}
 use Rattle.hq_planner.specs.Gathers.{gathered_of}
-use Rattle.hq_planner.specs.Choices.{way_of, first_of, joining_of, joinings, stands_by, all_stand}
+use Rattle.hq_planner.specs.Choices.{way_of, first_of, joining_of, joinings, built_of, stands_by, all_stand}
+use Rattle.hq_planner.specs.Joined.{AreJoined}
 use Rattle.hq_planner.specs.Places.{Reordered}
 use Rattle.hq_planner.specs.Serves.{Serves}
 use Rattle.hq_planner.specs.Tables.{Defs, kinds_by, keys_by, KeepRules}
+use Rattle.hq_planner.specs.declared.spreading.Built.{Built}
 use Rattle.hq_planner.specs.declared.step.Step.{Step}
 
 -- what a bound query says
@@ -108,29 +117,68 @@ module _ (kinds : ℕ → List Kind) (conds : List Expr) where
         let b = both_true (stands_by w (length (kinds s.table)) (own s.table) conds homes s) _ h in
         λ i. (one-stands w homes s b.0).1 i && all-stay (w + length (kinds s.table)) (homes_after (way_of s.way) w (length (kinds s.table)) (own s.table) s.left_keys s.right_keys homes) steps b.1 i
 
-pub spread-serves : (defs : Defs) (q : Query) (t : ℕ) (steps : List Step) (sent : List Kind)
-    → is_bound (kinds_by defs) q ≡ true → q.sources ≡ t ∷ map (λ (s : Step). s.table) steps
-    → kinds_sent (kinds_by defs) q ≡ Some sent → is_sendable sent ≡ true
+-- what the laws of plans ask of sources that are joined by steps which may be taken
+record Joins (defs : Defs) (q : Query) (s : Source) (js : List Joining) : Type 0 where
+  tables : q.sources ≡ s.table ∷ map (λ (j : Joining). j.table) js
+  same : sources_of s js ≡ with_tests (kinds_by defs) q.conds 0 q.sources
+  held : have_tests (kinds_by defs) q.conds 0 (sources_of s js) ≡ true
+  equated : are_equated (kinds_by defs) q.conds (length (kinds_by defs s.table)) js ≡ true
+  stay : sides_stay (kinds_by defs) (keys_by defs) (length (kinds_by defs s.table)) (own_homes (length (kinds_by defs s.table)) (keys_by defs s.table)) js ≡ true
+
+joins-of : (defs : Defs) (q : Query) (t : ℕ) (steps : List Step) → Bound (kinds_by defs) q → q.sources ≡ t ∷ map (λ (s : Step). s.table) steps
     → all_stand (kinds_by defs) (keys_by defs) q.conds (length (kinds_by defs t)) (own_homes (length (kinds_by defs t)) (keys_by defs t)) steps ≡ true
-    → Serves defs q (spread_plan (kinds_by defs) sent q (first_of (kinds_by defs) q.conds t) (joinings (kinds_by defs) q.conds (length (kinds_by defs t)) steps))
-spread-serves defs q t steps sent h sources found some stand =
+    → Joins defs q (first_of (kinds_by defs) q.conds t) (joinings (kinds_by defs) q.conds (length (kinds_by defs t)) steps)
+joins-of defs q t steps b sources stand =
     let kinds : ℕ → List Kind = kinds_by defs in
     let w : ℕ = length (kinds t) in
     let s : Source = first_of kinds q.conds t in
     let js : List Joining = joinings kinds q.conds w steps in
-    let b : Bound kinds q = bound-parts kinds q h in
-    let tables : q.sources ≡ t ∷ map (λ (j : Joining). j.table) js = sources ∙ ap (λ l. t ∷ l) (sym (joined-tables kinds q.conds w steps)) in
     let zero : w ≡ 0 + w = omega arith in
     let same : sources_of s js ≡ with_tests kinds q.conds 0 q.sources =
     ap (λ l. s ∷ l) (joined-sources kinds q.conds w steps ∙ ap (λ n. with_tests kinds q.conds n (map (λ (s : Step). s.table) steps)) zero) ∙ ap (with_tests kinds q.conds 0) (sym sources) in
-    let held : have_tests kinds q.conds 0 (sources_of s js) ≡ true = ap (have_tests kinds q.conds 0) same ∙ held-stand kinds q b in
-    let equated : are_equated kinds q.conds w js ≡ true = all-equated kinds q.conds (keys_by defs) w (own_homes w (keys_by defs t)) steps stand in
-    let stay : sides_stay kinds (keys_by defs) w (own_homes w (keys_by defs t)) js ≡ true = all-stay kinds q.conds (keys_by defs) w (own_homes w (keys_by defs t)) steps stand in
     record {
-      means = λ parts owner owned rules. spread-plan-means kinds (keys_by defs) sent q s js parts owner tables owned rules.0 rules.1 (equated-implied kinds q.conds w js equated)
-          (sources-stand kinds q.conds 0 (sources_of s js) held) (equated-placed kinds (keys_by defs) q.conds w (own_homes w (keys_by defs t)) js equated stay);
-      form = spread-well_formed kinds sent q s js tables b.fits b.room found some (equated-joinable kinds q t js tables b.fits equated) (sources-fit kinds q.conds 0 (sources_of s js) held);
-      scans = spread-held kinds sent q s js same;
+      tables = sources ∙ ap (λ l. t ∷ l) (sym (joined-tables kinds q.conds w steps));
+      same = same;
+      held = ap (have_tests kinds q.conds 0) same ∙ held-stand kinds q b;
+      equated = all-equated kinds q.conds (keys_by defs) w (own_homes w (keys_by defs t)) steps stand;
+      stay = all-stay kinds q.conds (keys_by defs) w (own_homes w (keys_by defs t)) steps stand;
+    }
+
+spread-serves : (defs : Defs) (q : Query) (s : Source) (js : List Joining) (sent : List Kind) → Bound (kinds_by defs) q → Joins defs q s js
+    → kinds_sent (kinds_by defs) q ≡ Some sent → is_sendable sent ≡ true → Serves defs q (spread_plan (kinds_by defs) sent q s js)
+spread-serves defs q s js sent b j found some =
+    let kinds : ℕ → List Kind = kinds_by defs in
+    let w : ℕ = length (kinds s.table) in
+    record {
+      means = λ parts owner owned rules. spread-plan-means kinds (keys_by defs) sent q s js parts owner j.tables owned rules.0 rules.1 (equated-implied kinds q.conds w js j.equated)
+          (sources-stand kinds q.conds 0 (sources_of s js) j.held) (equated-placed kinds (keys_by defs) q.conds w (own_homes w (keys_by defs s.table)) js j.equated j.stay);
+      form = spread-well_formed kinds sent q s js j.tables b.fits b.room found some (equated-joinable kinds q s.table js j.tables b.fits j.equated) (sources-fit kinds q.conds 0 (sources_of s js) j.held);
+      scans = spread-held kinds sent q s js j.same;
+    }
+
+-- the kinds of a query's columns, where it is not grouped
+columns-there : (kinds : ℕ → List Kind) (q : Query) (out : List Kind) → q.grouped ≡ false → items_kinds (product_kinds kinds q) q.items ≡ Some out → is_some (query_kinds kinds q) ≡ true → query_kinds kinds q ≡ Some out
+columns-there kinds q out plain items fits = given ∙ by (are_conditions (product_kinds kinds q) q.conds && are_conditions (product_kinds kinds q) q.having) (sym (ap (λ (o : Option (List Kind)). is_some o) given) ∙ fits)
+  where
+    given : query_kinds kinds q ≡ some_if (are_conditions (product_kinds kinds q) q.conds && are_conditions (product_kinds kinds q) q.having) out
+    given =
+        ap (λ (b : Bool). (cond b (group_kinds (product_kinds kinds q) q) (Some (product_kinds kinds q))) >>= (λ s. items_kinds s q.items >>= (λ found. some_if (are_conditions (product_kinds kinds q) q.conds && are_conditions s q.having) found))) plain
+        ∙ ap (λ (o : Option (List Kind)). o >>= (λ found. some_if (are_conditions (product_kinds kinds q) q.conds && are_conditions (product_kinds kinds q) q.having) found)) items
+
+    by : (b : Bool) → is_some (some_if b out) ≡ true → some_if b out ≡ Some out
+    by true h = refl
+    by false h = cc
+
+listing-serves : (defs : Defs) (q : Query) (s : Source) (js : List Joining) (out : List Kind) → Bound (kinds_by defs) q → Joins defs q s js
+    → q.grouped ≡ false → query_kinds (kinds_by defs) q ≡ Some out → Serves defs q (listing_plan (kinds_by defs) out q s js)
+listing-serves defs q s js out b j plain found =
+    let kinds : ℕ → List Kind = kinds_by defs in
+    let w : ℕ = length (kinds s.table) in
+    record {
+      means = λ parts owner owned rules. listing-plan-means kinds (keys_by defs) out q s js parts owner plain j.tables owned rules.0 rules.1 (equated-implied kinds q.conds w js j.equated)
+          (sources-stand kinds q.conds 0 (sources_of s js) j.held) (equated-placed kinds (keys_by defs) q.conds w (own_homes w (keys_by defs s.table)) js j.equated j.stay);
+      form = listing-well_formed kinds out q s js plain j.tables found b.room (equated-joinable kinds q s.table js j.tables b.fits j.equated) (sources-fit kinds q.conds 0 (sources_of s js) j.held);
+      scans = listing-held q plain kinds out s js j.same;
     }
 
 sources-split : (sources : List ℕ) (steps : List Step) → 0 < length sources → map (λ (s : Step). s.table) steps ≡ drop 1 sources → sources ≡ slice_index sources 0 ∷ map (λ (s : Step). s.table) steps
@@ -145,19 +193,29 @@ pub steps-few : (sources : List ℕ) (steps : List Step) → length sources ≤ 
 steps-few [] steps h e = let n : length steps ≡ 0 = sym (step-count steps) ∙ ap length e in omega (arith, n)
 steps-few (t ∷ ts) steps h e = let n : length steps ≡ length ts = sym (step-count steps) ∙ ap length e in omega (arith, n, h)
 
--- what was built of the steps that were chosen
-pub joined-serves : (defs : Defs) (q : Query) (sent : List Kind) (sources : List ℕ) (steps listed : List Step) (plan : Plan)
-    → is_bound (kinds_by defs) q ≡ true → kinds_sent (kinds_by defs) q ≡ Some sent → is_sendable sent ≡ true
-    → sources ≡ q.sources → listed ≡ steps → map (λ (s : Step). s.table) steps ≡ drop 1 q.sources
-    → all_stand (kinds_by defs) (keys_by defs) q.conds (length (kinds_by defs (slice_index q.sources 0))) (own_homes (length (kinds_by defs (slice_index q.sources 0))) (keys_by defs (slice_index q.sources 0))) steps ≡ true
-    → plan ≡ spread_plan (kinds_by defs) sent q (first_of (kinds_by defs) q.conds (slice_index sources 0)) (joinings (kinds_by defs) q.conds (length (kinds_by defs (slice_index sources 0))) listed)
-    → Serves defs q plan
-joined-serves defs q sent sources steps listed plan bound found some es el tables stand built =
-    let first : slice_index sources 0 ≡ slice_index q.sources 0 = ap (λ l. slice_index l 0) es in
-    let e : plan ≡ spread_plan (kinds_by defs) sent q (first_of (kinds_by defs) q.conds (slice_index q.sources 0)) (joinings (kinds_by defs) q.conds (length (kinds_by defs (slice_index q.sources 0))) steps) =
-    built ∙ (λ i. spread_plan (kinds_by defs) sent q (first_of (kinds_by defs) q.conds (first i)) (joinings (kinds_by defs) q.conds (length (kinds_by defs (first i))) (el i))) in
-    subst (Serves defs q) (sym e)
-    (spread-serves defs q (slice_index q.sources 0) steps sent bound (sources-split q.sources steps q.some_sources tables) found some stand)
+-- what is built of the steps that were chosen
+pub joined-same : (kinds : ℕ → List Kind) (q : Query) (conds : List Expr) (sources : List ℕ) (listed steps : List Step) (b : law.Built) → conds ≡ q.conds → sources ≡ q.sources → listed ≡ steps
+    → b ≡ law.with_sources kinds (law.first_source kinds (first_of kinds conds (slice_index sources 0))) (joinings kinds conds (length (kinds (slice_index sources 0))) listed)
+    → b ≡ law.with_sources kinds (law.first_source kinds (first_of kinds q.conds (slice_index q.sources 0))) (joinings kinds q.conds (length (kinds (slice_index q.sources 0))) steps)
+joined-same kinds q conds sources listed steps b ec es el built =
+    built ∙ (λ i. law.with_sources kinds (law.first_source kinds (first_of kinds (ec i) (slice_index (es i) 0))) (joinings kinds (ec i) (length (kinds (slice_index (es i) 0))) (el i)))
+
+joined-joins : (defs : Defs) (q : Query) (b : Built) → is_bound (kinds_by defs) q ≡ true → (j : AreJoined defs q b)
+    → Joins defs q (first_of (kinds_by defs) q.conds (slice_index q.sources 0)) (joinings (kinds_by defs) q.conds (length (kinds_by defs (slice_index q.sources 0))) j.steps)
+joined-joins defs q b bound j = joins-of defs q (slice_index q.sources 0) j.steps (bound-parts (kinds_by defs) q bound) (sources-split q.sources j.steps q.some_sources j.tables) j.stand
+
+pub joined-serves : (defs : Defs) (q : Query) (sent : List Kind) (b : Built) (plan : Plan) → is_bound (kinds_by defs) q ≡ true → kinds_sent (kinds_by defs) q ≡ Some sent → is_sendable sent ≡ true
+    → AreJoined defs q b → plan ≡ law.closed sent q (built_of b) → Serves defs q plan
+joined-serves defs q sent b plan bound found some j e =
+    subst (Serves defs q) (sym (e ∙ ap (law.closed sent q) j.built))
+    (spread-serves defs q (first_of (kinds_by defs) q.conds (slice_index q.sources 0)) (joinings (kinds_by defs) q.conds (length (kinds_by defs (slice_index q.sources 0))) j.steps) sent (bound-parts (kinds_by defs) q bound) (joined-joins defs q b bound j) found some)
+
+pub listed-serves : (defs : Defs) (q : Query) (out : List Kind) (b : Built) (plan : Plan) → is_bound (kinds_by defs) q ≡ true → q.grouped ≡ false → items_kinds (product_kinds (kinds_by defs) q) q.items ≡ Some out
+    → AreJoined defs q b → plan ≡ listed out q (built_of b) → Serves defs q plan
+listed-serves defs q out b plan bound plain items j e =
+    subst (Serves defs q) (sym (e ∙ ap (listed out q) j.built))
+    (listing-serves defs q (first_of (kinds_by defs) q.conds (slice_index q.sources 0)) (joinings (kinds_by defs) q.conds (length (kinds_by defs (slice_index q.sources 0))) j.steps) out (bound-parts (kinds_by defs) q bound) (joined-joins defs q b bound j)
+    plain (columns-there (kinds_by defs) q out plain items (bound-parts (kinds_by defs) q bound).fits))
 
 -- in another order
 pub turned-serves : (defs : Defs) (q r : Query) (plan : Plan) → Reordered (kinds_by defs) q r → Serves defs r plan → Serves defs q plan

@@ -1,6 +1,5 @@
 -- A query with its sources in another order.
-use Rattle.std.proofs.Common.{◌≡◌, ℕ, zero, suc, ◌+◌, ◌-◌, ◌≤◌, ◌<◌, nat_le, nat_lt, Bool, true, false, cond, not, ◌&&◌, ◌||◌, List, [], ◌∷◌, ◌++◌, length, map, flat_map, take, drop, get_or, refl, sym, ◌∙◌, ap, subst, arith, IsTrue, append_assoc, Result, Ok, Err}
-use Rattle.std.specs.Result.{IfOk}
+use Rattle.std.proofs.Common.{◌≡◌, ℕ, zero, suc, ◌+◌, ◌-◌, ◌≤◌, ◌<◌, nat_le, nat_lt, Bool, true, false, cond, not, ◌&&◌, ◌||◌, List, [], ◌∷◌, ◌++◌, length, map, flat_map, take, drop, get_or, refl, sym, ◌∙◌, ap, subst, arith, IsTrue, append_assoc}
 use Rattle.std.specs.List.{list_all}
 use Rattle.std.proofs.lemmas.List.{append-nil}
 use Rattle.std.proofs.lemmas.List.Folds.{list_all-append}
@@ -143,12 +142,3 @@ up-list ss i j l =
     ∙ ap (λ (m : List ℕ). ((take i ss ++ get_or ss j 0 ∷ []) ++ m) ++ drop (suc j) ss) (cut-between ss i j l)
     ∙ append_assoc (take i ss ++ get_or ss j 0 ∷ []) (drop i (take j ss)) (drop (suc j) ss)
     ∙ append_assoc (take i ss) (get_or ss j 0 ∷ []) (drop i (take j ss) ++ drop (suc j) ss)
-
--- what is given of an answer gives more of it
-pub ok_then : {A E : Type 0} (r : Result A E) (P Q : A → Type 0) → IfOk r P → ((a : A) → P a → Q a) → IfOk r Q
-ok_then (Ok a) P Q p f = f a p
-ok_then (Err e) P Q p f = tt
-
-pub both_ok : {A E : Type 0} (r : Result A E) (P Q S : A → Type 0) → IfOk r P → IfOk r Q → ((a : A) → P a → Q a → S a) → IfOk r S
-both_ok (Ok a) P Q S p q f = f a p q
-both_ok (Err e) P Q S p q f = tt

@@ -61,20 +61,22 @@ module _ (kinds : ℕ → List Kind) (own : ℕ → List ℕ) (conds : List Expr
   one-stands w homes s rest h = ap (λ b. b && all_stand kinds own conds (w + length (kinds s.table)) (homes_after (way_of s.way) w (length (kinds s.table)) (own s.table) s.left_keys s.right_keys homes) rest) h
 
 -- with one step more, the steps stand as far as they did
-pub step-more : (kinds : ℕ → List Kind) (own : ℕ → List ℕ) (conds : List Expr) (w0 : ℕ) (homes0 : List (List ℕ)) (steps new : List Step) (s : Step) (w columns table : ℕ) (homes lent next : List (List ℕ)) (keys again : List ℕ)
+pub step-more : (kinds : ℕ → List Kind) (own : ℕ → List ℕ) (conds : List Expr) (w0 : ℕ) (homes0 : List (List ℕ)) (steps new : List Step) (s : Step) (w v table : ℕ) (homes next : List (List ℕ))
     → ((rest : List Step) → all_stand kinds own conds w0 homes0 (steps ++ rest) ≡ all_stand kinds own conds w homes rest)
-    → new ≡ steps ++ s ∷ [] → s.table ≡ table → columns ≡ length (kinds table) → keys ≡ own table → again ≡ own table → lent ≡ homes
-    → stands_by w columns keys conds lent s ≡ true → next ≡ homes_after (way_of s.way) w columns again s.left_keys s.right_keys homes
-    → (rest : List Step) → all_stand kinds own conds w0 homes0 (new ++ rest) ≡ all_stand kinds own conds (w + columns) next rest
-step-more kinds own conds w0 homes0 steps new s w columns table homes lent next keys again before pushed et ec ek ea eh stands en rest =
-    let c : columns ≡ length (kinds s.table) = ec ∙ ap (λ (t : ℕ). length (kinds t)) (sym et) in
-    let k : keys ≡ own s.table = ek ∙ ap own (sym et) in
-    let a : again ≡ own s.table = ea ∙ ap own (sym et) in
-    let here : stands_by w (length (kinds s.table)) (own s.table) conds homes s ≡ true = (λ i. stands_by w (sym c i) (sym k i) conds (sym eh i) s) ∙ stands in
+    → new ≡ steps ++ s ∷ [] → s.table ≡ table → v ≡ w + length (kinds table)
+    → stands_by w (length (kinds table)) (own table) conds homes s ≡ true → next ≡ homes_after (way_of s.way) w (length (kinds table)) (own table) s.left_keys s.right_keys homes
+    → (rest : List Step) → all_stand kinds own conds w0 homes0 (new ++ rest) ≡ all_stand kinds own conds v next rest
+step-more kinds own conds w0 homes0 steps new s w v table homes next before pushed et ev stands en rest =
+    let here : stands_by w (length (kinds s.table)) (own s.table) conds homes s ≡ true = (λ i. stands_by w (length (kinds (et i))) (own (et i)) conds homes s) ∙ stands in
     ap (λ (l : List Step). all_stand kinds own conds w0 homes0 (l ++ rest)) pushed
     ∙ ap (all_stand kinds own conds w0 homes0) (append_assoc steps (s ∷ []) rest)
     ∙ before (s ∷ rest) ∙ one-stands kinds own conds w homes s rest here
-    ∙ sym (λ i. all_stand kinds own conds (w + c i) ((en ∙ (λ j. homes_after (way_of s.way) w (c j) (a j) s.left_keys s.right_keys homes)) i) rest)
+    ∙ (λ i. all_stand kinds own conds (w + length (kinds (et i))) (homes_after (way_of s.way) w (length (kinds (et i))) (own (et i)) s.left_keys s.right_keys homes) rest)
+    ∙ (λ i. all_stand kinds own conds (sym ev i) (sym en i) rest)
+
+-- a step stands by what it was tried by
+pub stands-there : (w columns : ℕ) (v : ℕ) (keys own : List ℕ) (conds : List Expr) (lent homes : List (List ℕ)) (s : Step) → columns ≡ v → keys ≡ own → lent ≡ homes → stands_by w columns keys conds lent s ≡ true → stands_by w v own conds homes s ≡ true
+stands-there w columns v keys own conds lent homes s ev ek eh h = (λ i. stands_by w (sym ev i) (sym ek i) conds (sym eh i) s) ∙ h
 
 take-one : (ss : List ℕ) (i : ℕ) → i < length ss → take (suc i) ss ≡ take i ss ++ get_or ss i 0 ∷ []
 take-one [] i l = absurd (omega (arith, l))

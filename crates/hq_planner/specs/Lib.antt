@@ -1,6 +1,7 @@
 pub mod Choices
 pub mod Conjoined
 pub mod Gathers
+pub mod Joined
 pub mod Places
 pub mod Sent
 pub mod Serves

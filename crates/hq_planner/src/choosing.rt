@@ -134,11 +134,12 @@ fn is_linked(query: &Query, defs: &[(u32, TableDef)], at: usize, place: usize) -
     let width = width_of_all(defs, &sources[..at]);
     let start = width_of_all(defs, &sources[..place]);
     let end = start + width_of(defs, sources[place]);
-    query
-        .conds
-        .as_slice()
-        .iter()
-        .any(|cond| links(cond, width, start, end))
+    for cond in query.conds.as_slice() {
+        if links(cond, width, start, end) {
+            return true;
+        }
+    }
+    false
 }
 
 fn links(e: &Expr, width: u16, start: u16, end: u16) -> bool {
@@ -205,25 +206,37 @@ pub fn preferred(alloc: Global, conds: &[Expr], meeting: Meeting) -> Result<Step
     ensures { IfOk result (λ step. step.table ≡ meeting.entry.table) }
 {
     let pairs = pairs(alloc, conds, meeting)?;
+    by_pairs(alloc, pairs.as_slice(), meeting)
+}
+
+fn by_pairs(alloc: Global, pairs: &[Pair], meeting: Meeting) -> Result<Step, NoMemory>
+    ensures { IfOk result (λ step. step.table ≡ meeting.entry.table) }
+{
     if pairs.is_empty() {
         return Ok(without_keys(alloc, meeting));
     }
-    if let Some(step) = staying(alloc, pairs.as_slice(), meeting)? {
+    if let Some(step) = staying(alloc, pairs, meeting)? {
         return Ok(step);
     }
+    moving(alloc, pairs, meeting)
+}
+
+fn moving(alloc: Global, pairs: &[Pair], meeting: Meeting) -> Result<Step, NoMemory>
+    ensures { IfOk result (λ step. step.table ≡ meeting.entry.table) }
+{
     let left_is_less = meeting.size < meeting.table_size;
-    if let Some(step) = moving_one(alloc, pairs.as_slice(), meeting, left_is_less)? {
+    if let Some(step) = moving_one(alloc, pairs, meeting, left_is_less)? {
         return Ok(step);
     }
     if is_much_less(meeting.size, meeting.table_size)
         || is_much_less(meeting.table_size, meeting.size)
     {
-        return by_all(alloc, pairs.as_slice(), meeting, copied(meeting));
+        return by_all(alloc, pairs, meeting, copied(meeting));
     }
-    if let Some(step) = moving_one(alloc, pairs.as_slice(), meeting, !left_is_less)? {
+    if let Some(step) = moving_one(alloc, pairs, meeting, !left_is_less)? {
         return Ok(step);
     }
-    by_all(alloc, pairs.as_slice(), meeting, Way::MoveBoth)
+    by_all(alloc, pairs, meeting, Way::MoveBoth)
 }
 
 fn is_much_less(a: u128, b: u128) -> bool {
@@ -349,10 +362,10 @@ fn moving_left(alloc: Global, pairs: &[Pair], meeting: Meeting) -> Result<Option
     }
     let mut left = Keys16::new(alloc);
     for key in meeting.own {
-        match pairs.iter().find(|pair| pair.right == *key) {
-            Some(pair) => left.push(pair.left)?,
-            None => return Ok(None),
-        }
+        let Some(partner) = left_of(pairs, *key) else {
+            return Ok(None);
+        };
+        left.push(partner)?;
     }
     let right = copy_keys(alloc, meeting.own)?;
     Ok(Some(joined_by(meeting, left, right, Way::MoveLeft)))
@@ -374,12 +387,32 @@ fn moving_right(alloc: Global, pairs: &[Pair], meeting: Meeting) -> Result<Optio
 fn partners(alloc: Global, pairs: &[Pair], left: &[u16]) -> Result<Option<Keys16>, NoMemory> {
     let mut right = Keys16::new(alloc);
     for key in left {
-        match pairs.iter().find(|pair| pair.left == *key) {
-            Some(pair) => right.push(pair.right)?,
-            None => return Ok(None),
-        }
+        let Some(partner) = right_of(pairs, *key) else {
+            return Ok(None);
+        };
+        right.push(partner)?;
     }
     Ok(Some(right))
+}
+
+// The column of the rows so far that a condition equates with one of the table.
+fn left_of(pairs: &[Pair], right: u16) -> Option<u16> {
+    for pair in pairs {
+        if pair.right == right {
+            return Some(pair.left);
+        }
+    }
+    None
+}
+
+// The column of the table that a condition equates with one of the rows so far.
+fn right_of(pairs: &[Pair], left: u16) -> Option<u16> {
+    for pair in pairs {
+        if pair.left == left {
+            return Some(pair.right);
+        }
+    }
+    None
 }
 
 // All that conditions equate are keys.

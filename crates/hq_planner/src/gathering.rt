@@ -6,12 +6,12 @@ ghost use Rattle.hq_laws.specs.Tests.{with_tests};
 ghost use Rattle.hq_planner.specs.Gathers.{gathered_of};
 ghost use Rattle.hq_planner.specs.Tables as tables;
 
+use crate::making::by_keys;
 use crate::source::source_op;
 use crate::stages::{filters, final_op, partial_op, sending, tail_op};
 use crate::tables::{kinds_by, width_of};
 use hq_algebra::{Expr, Keys16, Motion, Op, Plan, Query, Slices};
 use hq_value::{NoMemory, TableDef};
-use sqlite_items::Boxed;
 use std::alloc::Global;
 
 /// The plan that gathers each source by itself, under its tests.
@@ -72,13 +72,8 @@ fn product(alloc: Global, sources: &[u32], defs: &[(u32, TableDef)]) -> Result<O
     Ok(op)
 }
 
-/// The rows of a table that a slice sent.
-pub fn received(
-    alloc: Global,
-    slice: u8,
-    table: u32,
-    defs: &[(u32, TableDef)],
-) -> Result<Op, NoMemory>
+// The rows of a table that a slice sent.
+fn received(alloc: Global, slice: u8, table: u32, defs: &[(u32, TableDef)]) -> Result<Op, NoMemory>
     ensures { IfOk result (λ op. op ≡ Op.Receive slice (tables.kinds_by defs.now table)) }
 {
     let kinds = kinds_by(alloc, defs, table)?;
@@ -89,10 +84,5 @@ pub fn received(
 fn beside(alloc: Global, left: Op, right: Op) -> Result<Op, NoMemory>
     ensures { IfOk result (λ op. op ≡ Op.Join [] [] left right) }
 {
-    Ok(Op::Join {
-        left_keys: Keys16::new(alloc),
-        right_keys: Keys16::new(alloc),
-        left: Boxed::new(alloc, left)?,
-        right: Boxed::new(alloc, right)?,
-    })
+    by_keys(alloc, Keys16::new(alloc), Keys16::new(alloc), left, right)
 }

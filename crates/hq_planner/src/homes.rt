@@ -1,5 +1,5 @@
 //! The keys by which rows are known to lie on the nodes.
-ghost use Rattle.std.specs.Prelude.{◌≡◌, ◌≤◌, ◌∷◌, [], IfOk, IsTrue, map};
+ghost use Rattle.std.specs.Prelude.{◌≡◌, ◌≤◌, ◌∷◌, [], IfOk, OnOk, IsTrue, map};
 ghost use Rattle.hq_value.specs.Tables.{all_below};
 ghost use Rattle.hq_laws.specs.Placed as spec;
 ghost use Rattle.hq_planner.specs.Choices.{way_of};
@@ -32,30 +32,64 @@ fn one_home(alloc: Global, keys: Keys16) -> Result<Homes, NoMemory>
     Ok(homes)
 }
 
-/// The keys by which rows lie after a step: the rows before it have `width` columns and lie by `homes`, its table has
-/// `columns` and keys of its own.
-pub fn homes_after(
+/// The keys by which rows lie after a step, in place of those before it: the rows before it have `width` columns, its
+/// table has `columns` and keys of its own.
+pub fn take_step(
     alloc: Global,
+    homes: &mut Homes,
     step: &Step,
     width: u16,
     columns: u16,
     own: &[u16],
-    homes: Homes,
-) -> Result<Homes, NoMemory>
+) -> Result<(), NoMemory>
     requires width { width ≤ 512 }
     requires columns { columns ≤ 64 }
     requires own { IsTrue (all_below columns own.now) }
     requires keys { IsTrue (all_below columns step.now.right_keys) }
-    ensures { IfOk result (λ after. after.items ≡ spec.homes_after (way_of step.now.way) width columns own.now step.now.left_keys step.now.right_keys homes.items) }
+    ensures { OnOk result (homes.new.items ≡ spec.homes_after (way_of step.now.way) width columns own.now step.now.left_keys step.now.right_keys homes.old.items) }
 {
     match step.way {
-        Way::CopyRight => Ok(homes),
-        Way::CopyLeft => further_own(alloc, width, columns, own),
-        Way::MoveBoth => both_homes(alloc, step, width, columns),
-        Way::MoveLeft => both_homes(alloc, step, width, columns),
-        Way::MoveRight => one_more(alloc, step, width, columns, homes),
-        Way::Stay => one_more(alloc, step, width, columns, homes),
+        Way::CopyRight => Ok(()),
+        Way::CopyLeft => to_own(alloc, homes, width, columns, own),
+        Way::MoveBoth => to_both(alloc, homes, step, width, columns),
+        Way::MoveLeft => to_both(alloc, homes, step, width, columns),
+        Way::MoveRight => add_one(alloc, homes, step, width, columns),
+        Way::Stay => add_one(alloc, homes, step, width, columns),
     }
+}
+
+fn to_own(
+    alloc: Global,
+    homes: &mut Homes,
+    width: u16,
+    columns: u16,
+    own: &[u16],
+) -> Result<(), NoMemory>
+    requires width { width ≤ 512 }
+    requires columns { columns ≤ 64 }
+    requires own { IsTrue (all_below columns own.now) }
+    ensures { OnOk result (homes.new.items ≡ map (spec.further width) (spec.own_homes columns own.now)) }
+{
+    let new = further_own(alloc, width, columns, own)?;
+    *homes = new;
+    Ok(())
+}
+
+fn to_both(
+    alloc: Global,
+    homes: &mut Homes,
+    step: &Step,
+    width: u16,
+    columns: u16,
+) -> Result<(), NoMemory>
+    requires width { width ≤ 512 }
+    requires columns { columns ≤ 64 }
+    requires keys { IsTrue (all_below columns step.now.right_keys) }
+    ensures { OnOk result (homes.new.items ≡ step.now.left_keys ∷ spec.further width step.now.right_keys ∷ []) }
+{
+    let new = both_homes(alloc, step, width, columns)?;
+    *homes = new;
+    Ok(())
 }
 
 fn further_own(alloc: Global, width: u16, columns: u16, own: &[u16]) -> Result<Homes, NoMemory>
@@ -84,21 +118,21 @@ fn both_homes(alloc: Global, step: &Step, width: u16, columns: u16) -> Result<Ho
     Ok(homes)
 }
 
-fn one_more(
+fn add_one(
     alloc: Global,
+    homes: &mut Homes,
     step: &Step,
     width: u16,
     columns: u16,
-    mut homes: Homes,
-) -> Result<Homes, NoMemory>
+) -> Result<(), NoMemory>
     requires width { width ≤ 512 }
     requires columns { columns ≤ 64 }
     requires keys { IsTrue (all_below columns step.now.right_keys) }
-    ensures { IfOk result (λ after. after.items ≡ spec.further width step.now.right_keys ∷ homes.items) }
+    ensures { OnOk result (homes.new.items ≡ spec.further width step.now.right_keys ∷ homes.old.items) }
 {
     let keys = further(alloc, width, columns, step.right_keys.as_slice())?;
     homes.insert(0, keys)?;
-    Ok(homes)
+    Ok(())
 }
 
 // The same keys where `width` columns stand before them.

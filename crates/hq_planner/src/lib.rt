@@ -5,6 +5,7 @@ mod checking;
 mod choosing;
 mod gathering;
 mod homes;
+mod making;
 mod ordering;
 mod planning;
 mod renaming;

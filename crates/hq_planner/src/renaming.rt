@@ -3,10 +3,10 @@ ghost use Rattle.std.specs.Prelude.{◌≡◌, IfOk, map};
 ghost use Rattle.hq_laws.specs.Turned as spec;
 ghost use Rattle.hq_planner.specs.Places.{place_of};
 
+use crate::making::{and, arith, compare, is_null, not, or};
 use crate::turn::Turn;
 use hq_algebra::{Aggregate, Aggregates, Expr, Exprs, Keys16};
 use hq_value::NoMemory;
-use sqlite_items::Boxed;
 use std::alloc::Global;
 
 /// New places of columns.
@@ -51,26 +51,34 @@ pub fn renamed(alloc: Global, to: &Places, e: &Expr) -> Result<Expr, NoMemory>
     match e {
         Expr::Column(place) => Ok(Expr::Column(to.place(*place))),
         Expr::Literal(value) => Ok(Expr::Literal(value.copy()?)),
-        Expr::Arith { kind, left, right } => Ok(Expr::Arith {
-            kind: *kind,
-            left: Boxed::new(alloc, renamed(alloc, to, left.get())?)?,
-            right: Boxed::new(alloc, renamed(alloc, to, right.get())?)?,
-        }),
-        Expr::Compare { kind, left, right } => Ok(Expr::Compare {
-            kind: *kind,
-            left: Boxed::new(alloc, renamed(alloc, to, left.get())?)?,
-            right: Boxed::new(alloc, renamed(alloc, to, right.get())?)?,
-        }),
-        Expr::And { left, right } => Ok(Expr::And {
-            left: Boxed::new(alloc, renamed(alloc, to, left.get())?)?,
-            right: Boxed::new(alloc, renamed(alloc, to, right.get())?)?,
-        }),
-        Expr::Or { left, right } => Ok(Expr::Or {
-            left: Boxed::new(alloc, renamed(alloc, to, left.get())?)?,
-            right: Boxed::new(alloc, renamed(alloc, to, right.get())?)?,
-        }),
-        Expr::Not(of) => Ok(Expr::Not(Boxed::new(alloc, renamed(alloc, to, of.get())?)?)),
-        Expr::IsNull(of) => Ok(Expr::IsNull(Boxed::new(alloc, renamed(alloc, to, of.get())?)?)),
+        Expr::Arith { kind, left, right } => {
+            let left = renamed(alloc, to, left.get())?;
+            let right = renamed(alloc, to, right.get())?;
+            arith(alloc, *kind, left, right)
+        }
+        Expr::Compare { kind, left, right } => {
+            let left = renamed(alloc, to, left.get())?;
+            let right = renamed(alloc, to, right.get())?;
+            compare(alloc, *kind, left, right)
+        }
+        Expr::And { left, right } => {
+            let left = renamed(alloc, to, left.get())?;
+            let right = renamed(alloc, to, right.get())?;
+            and(alloc, left, right)
+        }
+        Expr::Or { left, right } => {
+            let left = renamed(alloc, to, left.get())?;
+            let right = renamed(alloc, to, right.get())?;
+            or(alloc, left, right)
+        }
+        Expr::Not(of) => {
+            let of = renamed(alloc, to, of.get())?;
+            not(alloc, of)
+        }
+        Expr::IsNull(of) => {
+            let of = renamed(alloc, to, of.get())?;
+            is_null(alloc, of)
+        }
     }
 }
 

@@ -8,11 +8,11 @@ ghost use Rattle.hq_planner.specs.Tables as tables;
 ghost use Rattle.hq_algebra.specs.Steps as steps;
 ghost use Rattle.hq_planner.specs.Conjoined.{with_cond, conjoined, lowered_tests, under_filter, is_ranged_at};
 
+use crate::making::{and, filter};
 use crate::renaming::{Places, renamed};
 use crate::tables::kinds_by;
 use hq_algebra::{Expr, Op};
 use hq_value::{Kind, Kinds, NoMemory, TableDef, Value};
-use sqlite_items::Boxed;
 use std::alloc::Global;
 
 /// The Scan of a table, directly under one Filter of the tests that the conditions hold on it, where there are some.
@@ -36,10 +36,7 @@ fn filtered(alloc: Global, cond: Option<Expr>, input: Op) -> Result<Op, NoMemory
 {
     match cond {
         None => Ok(input),
-        Some(cond) => Ok(Op::Filter {
-            cond,
-            input: Boxed::new(alloc, input)?,
-        }),
+        Some(cond) => filter(alloc, cond, input),
     }
 }
 
@@ -111,10 +108,10 @@ fn before_others(alloc: Global, cond: Expr, others: Option<Expr>) -> Result<Opti
 {
     match others {
         None => Ok(Some(cond)),
-        Some(other) => Ok(Some(Expr::And {
-            left: Boxed::new(alloc, cond)?,
-            right: Boxed::new(alloc, other)?,
-        })),
+        Some(other) => {
+            let both = and(alloc, cond, other)?;
+            Ok(Some(both))
+        }
     }
 }
 

@@ -1,9 +1,11 @@
 //! The operators of a plan behind its sources.
 ghost use Rattle.std.specs.Prelude.{◌≡◌, ◌≤◌, ◌+◌, ◌*◌, IfOk, length, IsTrue};
 ghost use Rattle.hq_laws.specs.Stages as spec;
+ghost use Rattle.hq_listing.specs.Listing as listing;
 ghost use Rattle.hq_meaning.specs.Operators as operators;
 ghost use Rattle.hq_algebra.specs.Bound.{has_places};
 
+use crate::making::filter;
 use hq_algebra::{
     Aggregate, Aggregates, Expr, Motion, Op, Query, Slice, copy_aggregates, copy_exprs, copy_keys,
     copy_order,
@@ -24,18 +26,16 @@ pub fn filters(alloc: Global, conds: &[Expr], input: Op) -> Result<Op, NoMemory>
 {
     let mut op = input;
     for cond in conds {
-        op = filter(alloc, cond, op)?;
+        op = filtered(alloc, cond, op)?;
     }
     Ok(op)
 }
 
-fn filter(alloc: Global, cond: &Expr, input: Op) -> Result<Op, NoMemory>
+fn filtered(alloc: Global, cond: &Expr, input: Op) -> Result<Op, NoMemory>
     ensures { IfOk result (λ op. op ≡ Op.Filter cond.now input) }
 {
-    Ok(Op::Filter {
-        cond: cond.copy(alloc)?,
-        input: Boxed::new(alloc, input)?,
-    })
+    let cond = cond.copy(alloc)?;
+    filter(alloc, cond, input)
 }
 
 /// The Partial, where the query is grouped.
@@ -45,10 +45,19 @@ pub fn partial_op(alloc: Global, query: &Query, input: Op) -> Result<Op, NoMemor
     if !query.grouped {
         return Ok(input);
     }
+    partial(alloc, query, input)
+}
+
+fn partial(alloc: Global, query: &Query, input: Op) -> Result<Op, NoMemory>
+    ensures { IfOk result (λ op. op ≡ Op.Partial query.now.groups query.now.aggregates input) }
+{
+    let input = Boxed::new(alloc, input)?;
+    let keys = copy_keys(alloc, query.groups.as_slice())?;
+    let aggregates = copy_aggregates(alloc, query.aggregates.as_slice())?;
     Ok(Op::Partial {
-        keys: copy_keys(alloc, query.groups.as_slice())?,
-        aggregates: copy_aggregates(alloc, query.aggregates.as_slice())?,
-        input: Boxed::new(alloc, input)?,
+        keys,
+        aggregates,
+        input,
     })
 }
 
@@ -60,11 +69,20 @@ pub fn final_op(alloc: Global, query: &Query, input: Op) -> Result<Op, NoMemory>
     if !query.grouped {
         return Ok(input);
     }
-    let keys = query.groups.len() as u16;
+    merged(alloc, query, query.groups.len() as u16, input)
+}
+
+fn merged(alloc: Global, query: &Query, keys: u16, input: Op) -> Result<Op, NoMemory>
+    requires keys { keys ≡ length query.now.groups }
+    requires places { IsTrue (has_places query.now) }
+    ensures { IfOk result (λ op. op ≡ Op.Final (length query.now.groups) (spec.final_aggregates (length query.now.groups) query.now.aggregates) input) }
+{
+    let input = Boxed::new(alloc, input)?;
+    let aggregates = final_aggregates(alloc, keys, query.aggregates.as_slice())?;
     Ok(Op::Final {
         keys,
-        aggregates: final_aggregates(alloc, keys, query.aggregates.as_slice())?,
-        input: Boxed::new(alloc, input)?,
+        aggregates,
+        input,
     })
 }
 
@@ -116,12 +134,32 @@ fn distinct_op(alloc: Global, query: &Query, input: Op) -> Result<Op, NoMemory>
     Ok(Op::Distinct(Boxed::new(alloc, input)?))
 }
 
-fn project(alloc: Global, query: &Query, input: Op) -> Result<Op, NoMemory>
+/// The select list.
+pub fn listed_op(alloc: Global, query: &Query, input: Op) -> Result<Op, NoMemory>
     ensures { IfOk result (λ op. op ≡ Op.Project query.now.items input) }
 {
-    Ok(Op::Project {
-        items: copy_exprs(alloc, query.items.as_slice())?,
-        input: Boxed::new(alloc, input)?,
+    let input = Boxed::new(alloc, input)?;
+    let items = copy_exprs(alloc, query.items.as_slice())?;
+    Ok(Op::Project { items, input })
+}
+
+/// DISTINCT, the order and LIMIT.
+pub fn end_op(alloc: Global, query: &Query, input: Op) -> Result<Op, NoMemory>
+    ensures { IfOk result (λ op. op ≡ listing.end_op query.now input) }
+{
+    let input = distinct_op(alloc, query, input)?;
+    sorted(alloc, query, input)
+}
+
+fn sorted(alloc: Global, query: &Query, input: Op) -> Result<Op, NoMemory>
+    ensures { IfOk result (λ op. op ≡ Op.Sort query.now.order query.now.limit input) }
+{
+    let input = Boxed::new(alloc, input)?;
+    let order = copy_order(alloc, query.order.as_slice())?;
+    Ok(Op::Sort {
+        order,
+        limit: query.limit,
+        input,
     })
 }
 
@@ -130,11 +168,6 @@ pub fn tail_op(alloc: Global, query: &Query, input: Op) -> Result<Op, NoMemory>
     ensures { IfOk result (λ op. op ≡ spec.tail_op query.now input) }
 {
     let kept = filters(alloc, query.having.as_slice(), input)?;
-    let listed = project(alloc, query, kept)?;
-    let input = distinct_op(alloc, query, listed)?;
-    Ok(Op::Sort {
-        order: copy_order(alloc, query.order.as_slice())?,
-        limit: query.limit,
-        input: Boxed::new(alloc, input)?,
-    })
+    let listed = listed_op(alloc, query, kept)?;
+    end_op(alloc, query, listed)
 }

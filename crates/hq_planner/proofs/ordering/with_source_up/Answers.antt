@@ -6,7 +6,8 @@ use Rattle.hq_laws.specs.Turned.{turned, AreTurned}
 use Rattle.hq_planner.specs.Places.{Reordered}
 use Rattle.hq_planner.specs.Tables.{kinds_by}
 use Rattle.hq_planner.proofs.Plans.{turned-bound}
-use Rattle.hq_planner.proofs.Reordering.{reordered, cut-between, ok_then, both_ok}
+use Rattle.hq_planner.proofs.Reordering.{reordered, cut-between}
+use Rattle.hq_planner.proofs.Results.{ok_then, both_ok}
 use Rattle.hq_planner.proofs.ordering.with_source_up.Goals as goal
 
 pub returns : goal.returns

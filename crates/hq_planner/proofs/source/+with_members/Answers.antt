@@ -2,7 +2,8 @@ use Rattle.std.proofs.Common.{◌≡◌, ap, sym, ◌∙◌}
 use Rattle.hq_algebra.specs.declared.expr.Expr.{Expr}
 use Rattle.hq_laws.specs.Tests.{members}
 use Rattle.hq_planner.specs.Conjoined.{conjoined, lowered_tests}
-use Rattle.hq_planner.proofs.Conjoining.{and-members, if_ok-then}
+use Rattle.hq_planner.proofs.Conjoining.{and-members}
+use Rattle.hq_planner.proofs.Results.{if_ok-then}
 use Rattle.hq_planner.proofs.source.+with_members.Goals as goal
 
 pub returns-in_ok-others-in-And : goal.returns-in_ok-others-in-And

@@ -5,7 +5,8 @@ use Rattle.hq_laws.specs.Sources.{source_op}
 use Rattle.hq_laws.specs.Tests.{tests_of}
 use Rattle.hq_planner.specs.Conjoined.{conjoined, under_filter}
 use Rattle.hq_planner.specs.Tables.{kinds_by}
-use Rattle.hq_planner.proofs.Conjoining.{source-under, if_ok-then}
+use Rattle.hq_planner.proofs.Conjoining.{source-under}
+use Rattle.hq_planner.proofs.Results.{if_ok-then}
 use Rattle.hq_planner.proofs.source.source_op.Goals as goal
 
 pub returns : goal.returns

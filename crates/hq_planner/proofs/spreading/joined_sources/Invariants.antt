@@ -2,7 +2,7 @@ use Rattle.std.proofs.Common.{◌≡◌, ◌+◌, ◌≤◌, ◌*◌, drop, leng
 use Rattle.hq_laws.specs.Spread.{first_source, with_sources}
 use Rattle.hq_planner.specs.Tables.{kinds_by}
 use Rattle.hq_planner.specs.Choices.{joinings, first_of, built_of}
-use Rattle.hq_planner.proofs.spreading.spread.Given as goal
+use Rattle.hq_planner.proofs.spreading.joined_sources.Given as goal
 
 abbrev pub invariant-loop-step : goal.invariant-loop-step
 invariant-loop-step l = record {

@@ -2,11 +2,11 @@ use Rattle.std.proofs.Common.{arith, ◌∙◌}
 use Rattle.hq_planner.specs.Choices.{built_of}
 use Rattle.hq_planner.specs.Tables.{kinds_by}
 use Rattle.hq_planner.proofs.Building.{step-next}
-use Rattle.hq_planner.proofs.spreading.spread.Goals as goal
+use Rattle.hq_planner.proofs.spreading.joined_sources.Goals as goal
 
 pub loop-step-preserved : goal.loop-step-preserved
 loop-step-preserved c = record {
-  built = step-next (kinds_by c.args.defs.now) c.as_slice-conds.result.now (built_of c.loop-step.built) (built_of c.in_ok-next.next) c.args.steps.now c.loop-step.step-index c.step-item.result c.loop-step-test.true c.step-item.is c.in_ok-next.ensures.built ∙ c.loop-step.invariant.built;
+  built = step-next (kinds_by c.args.defs.now) c.args.conds.now (built_of c.loop-step.built) (built_of c.in_ok-next.next) c.args.steps.now c.loop-step.step-index c.step-item.result c.loop-step-test.true c.step-item.is c.in_ok-next.ensures.built ∙ c.loop-step.invariant.built;
   few = omega (arith, c.in_ok-next.ensures.few, c.loop-step.invariant.few);
   columns = omega (arith, c.in_ok-next.ensures.columns, c.loop-step.invariant.columns);
 }
