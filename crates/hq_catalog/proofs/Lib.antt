@@ -2,6 +2,7 @@ pub mod Backs
 mod Examples
 pub mod History
 pub mod Lends
+pub mod Makes
 pub mod Moves
 pub mod Others
 pub mod Parts

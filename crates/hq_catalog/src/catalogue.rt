@@ -2,14 +2,14 @@
 ghost use Rattle.std.specs.Prelude.{◌≡◌, ◌<◌, ◌≤◌, ◌&&◌, [], true, length, replicate, IfOk};
 ghost use Rattle.hq_catalog.specs.Asks.{MayAdopt, MayBack, MayLend};
 ghost use Rattle.hq_catalog.specs.History.{history};
-ghost use Rattle.hq_catalog.specs.CatStep.{AdoptStep, BackStep, LendStep, MarkStep, SweepAnyStep};
+ghost use Rattle.hq_catalog.specs.CatStep.{AdoptStep, AlterStep, BackStep, CreateStep, LendStep, MarkStep, SweepAnyStep};
 ghost use Rattle.hq_catalog.specs.Stands.{Stands};
 
 use crate::ask::Answer;
 use crate::books::Books;
 use hq_lane::Lane;
 use hq_store::{SealCopy, StoredFile};
-use hq_value::{Entry, Marks, NoMemory};
+use hq_value::{Column, Entry, Marks, Name, NoMemory, TableDef};
 use indexmap::IndexSet;
 use std::alloc::Global;
 use std::marker::Model;
@@ -106,6 +106,28 @@ impl<F: StoredFile, Z: SealCopy> Catalogue<F, Z> {
         ensures step { BackStep (F.tells && Z.tells) (length self.old.marks) session statement (history (F.tells && Z.tells) self.old) (history (F.tells && Z.tells) self.new) lane result }
     {
         self.books.back(session, statement, lane)
+    }
+
+    /// Makes a table.
+    pub fn create(&mut self, session: u32, statement: u32, def: TableDef) -> Answer<F, Z>
+        ensures nodes { length self.new.marks ≡ length self.old.marks }
+        ensures step { CreateStep (F.tells && Z.tells) (length self.old.marks) session statement (history (F.tells && Z.tells) self.old) (history (F.tells && Z.tells) self.new) def result }
+    {
+        self.books.create(session, statement, def)
+    }
+
+    /// Adds a column to the table of this name.
+    pub fn alter(
+        &mut self,
+        session: u32,
+        statement: u32,
+        table: Name,
+        column: Column,
+    ) -> Answer<F, Z>
+        ensures nodes { length self.new.marks ≡ length self.old.marks }
+        ensures step { AlterStep (F.tells && Z.tells) (length self.old.marks) session statement (history (F.tells && Z.tells) self.old) (history (F.tells && Z.tells) self.new) table column result }
+    {
+        self.books.alter(session, statement, table, column)
     }
 
     /// Lends the lowest lane with a tail, of the lowest table that has one, to be swept.

@@ -6,6 +6,7 @@
 mod ask;
 mod books;
 mod catalogue;
+mod define;
 mod kept;
 mod laws;
 mod table;

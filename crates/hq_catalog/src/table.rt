@@ -54,6 +54,19 @@ impl<F: StoredFile, Z: SealCopy> Table<F, Z> {
         })
     }
 
+    pub(crate) fn def(&self) -> &TableDef
+        ensures { result.now ≡ self.now.def }
+    {
+        &self.def
+    }
+
+    /// Gives it another definition.
+    pub(crate) fn define(&mut self, def: TableDef)
+        ensures { self.new ≡ record self.old { def = def } }
+    {
+        self.def = def;
+    }
+
     /// Lends session `k` the lane that is next.
     pub(crate) fn lend(&mut self, k: u32) -> Lent<Lane<F, Z>>
         ensures lent { LendsTo k self.old.slots result self.new.slots }

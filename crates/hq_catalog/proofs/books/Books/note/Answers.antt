@@ -1,5 +1,5 @@
 -- The log has one entry more, and nothing else changes.
-use Rattle.std.proofs.Common.{◌≡◌, ◌&&◌, Bool, subst, sym, ◌∙◌, ap, arith}
+use Rattle.std.proofs.Common.{◌&&◌, Bool, subst, sym, ◌∙◌, ap, arith}
 use Rattle.hq_catalog.specs.History.{history}
 use Rattle.hq_catalog.specs.Kept.{IsCatalogue, cat_of}
 use Rattle.hq_catalog.proofs.Moves.{with_parts}
