@@ -57,7 +57,8 @@ pub(crate) fn shares_of<'a>(
     ensures count { IfOk result (λ shares. vec_len shares ≡ 16) }
     ensures shares { IfOk result (λ shares. (b : ℕ) → share_in shares.items b ≡ share def.now.keys rows.now b) }
 {
-    let mut shares = no_shares(alloc, rows.len() / BUCKETS + 1)?;
+    // Twice what each has if all have as many, so that hardly any grows.
+    let mut shares = no_shares(alloc, rows.len() / 8 + 1)?;
     for place in 0..rows.len() {
         let row = &rows[place];
         add_row(&mut shares, bucket_in(def, row, place), row)?;
