@@ -15,8 +15,8 @@ use std::test::Fail;
 /// What an exchange gave.
 pub type Given = Result<Vec<(u8, Vec<u8>)>, ExchangeEnd>;
 
-// The texts as streams, from the first node and those below it, as many as there are nodes.
-fn streams(alloc: Global, first: u8, texts: &[Vec<u8>]) -> Result<Vec<(u8, Vec<u8>)>, Fail>
+/// The texts as streams, from the first node and those below it, as many as there are nodes.
+pub fn streams(alloc: Global, first: u8, texts: &[Vec<u8>]) -> Result<Vec<(u8, Vec<u8>)>, Fail>
     requires { first < 16 }
     ensures { IfOk result (λ streams. GoDown first streams.items) }
 {
@@ -30,6 +30,25 @@ fn streams(alloc: Global, first: u8, texts: &[Vec<u8>]) -> Result<Vec<(u8, Vec<u
         from -= 1;
     }
     Ok(streams)
+}
+
+/// Runs an exchange of the streams, whose nodes go down from the first, over the link.
+pub fn carry<L: Link>(
+    alloc: Global,
+    link: &mut L,
+    query: u64,
+    motion: u16,
+    to: u8,
+    first: u8,
+    streams: Vec<(u8, Vec<u8>)>,
+) -> Given
+    requires to { to < 16 }
+    requires first { first < 16 }
+    requires down { GoDown first streams.items }
+    requires earlier { AreEarlier query motion (L.state link.old).may }
+{
+    let _first = first;
+    exchange(alloc, link, query, motion, to, streams)
 }
 
 /// Runs an exchange of the texts over the link.
@@ -47,7 +66,7 @@ pub fn run<L: Link>(
     requires earlier { AreEarlier query motion (L.state link.old).may }
 {
     let streams = streams(alloc, first, texts)?;
-    Ok(exchange(alloc, link, query, motion, to, streams))
+    Ok(carry(alloc, link, query, motion, to, first, streams))
 }
 
 /// Whether these are the streams of the texts.

