@@ -39,7 +39,7 @@ pub(crate) fn u32_at(bytes: &[u8]) -> Option<(u32, &[u8])>
     Some((number, &bytes[4..]))
 }
 
-fn u64_at(bytes: &[u8]) -> Option<(u64, &[u8])>
+pub(crate) fn u64_at(bytes: &[u8]) -> Option<(u64, &[u8])>
     ensures { Reads (λ x. (x.0, x.1.now)) result (number_at w64 bytes.now) }
 {
     let number = read_u64(bytes, 0)?;
@@ -47,6 +47,7 @@ fn u64_at(bytes: &[u8]) -> Option<(u64, &[u8])>
 }
 
 #[tactic(auto, unfolding(crate::specs::Reading::bool_at))]
+#[inline(always)]
 fn bool_at(bytes: &[u8]) -> Result<(Value, &[u8]), Misread>
     ensures { Gives (λ x. (x.0, x.1.now)) result (bool_at bytes.now) }
 {
@@ -58,6 +59,7 @@ fn bool_at(bytes: &[u8]) -> Result<(Value, &[u8]), Misread>
 }
 
 #[tactic(auto, unfolding(crate::specs::Reading::int_at))]
+#[inline(always)]
 fn int_at(bytes: &[u8]) -> Result<(Value, &[u8]), Misread>
     ensures { Gives (λ x. (x.0, x.1.now)) result (int_at bytes.now) }
 {
@@ -97,6 +99,7 @@ fn text_of(alloc: Global, bytes: &[u8]) -> Result<Chars, Misread>
 
 /// A value of the kind, which is not NULL.
 #[tactic(auto, unfolding(crate::specs::Reading::value_at))]
+#[inline(always)]
 pub(crate) fn value_at(alloc: Global, kind: Kind, bytes: &[u8]) -> Result<(Value, &[u8]), Misread>
     ensures { Gives (λ x. (x.0, x.1.now)) result (value_at kind bytes.now) }
 {
@@ -109,6 +112,7 @@ pub(crate) fn value_at(alloc: Global, kind: Kind, bytes: &[u8]) -> Result<(Value
 
 /// A column's value: NULL, for which no bytes stand, or what stands next.
 #[tactic(auto, unfolding(crate::specs::Reading::column_at))]
+#[inline(always)]
 pub(crate) fn column_at(
     alloc: Global,
     kind: Kind,

@@ -1,5 +1,5 @@
 //! Rows read.
-ghost use Rattle.std.specs.Prelude.{◌≡◌, ◌≤◌, ◌∷◌, [], ℕ, List, length, take, drop, IfOk, OnOk, Err, Some, None};
+ghost use Rattle.std.specs.Prelude.{◌≡◌, ◌≤◌, ◌∷◌, ◌%◌, [], ℕ, List, length, take, drop, IfOk, OnOk, Err, Some, None};
 ghost use Rattle.hq_value.specs.declared.value.Value.{Value as Datum};
 ghost use Rattle.hq_block.specs.Block.{padded};
 ghost use Rattle.hq_block.specs.Row.{IsRow, bitmap_length};
@@ -7,7 +7,7 @@ ghost use Rattle.hq_block.specs.Reading.{Gives, low_number, columns_at, row_at, 
 
 use crate::RowFault;
 use crate::fault::Misread;
-use crate::fields::column_at;
+use crate::fields::{column_at, u64_at};
 use crate::nulls::{bitmap_length, ends_after, is_null};
 use hq_value::{Kind, Kinds, NoMemory, Row, Value};
 use std::alloc::Global;
@@ -148,7 +148,6 @@ fn push_wide_row<'a>(
     Ok(rest)
 }
 
-#[tactic(auto, unfolding(crate::specs::Reading::columns_at))]
 fn push_one<'a>(
     alloc: Global,
     kind: Kind,
@@ -161,8 +160,70 @@ fn push_one<'a>(
     let [flags, values @ ..] = bytes else {
         return Err(Misread::Absent);
     };
-    let (value, rest) = column_at(alloc, kind, *flags % 2 == 1, values)?;
-    if *flags / 2 != 0 {
+    match kind {
+        Kind::Int => push_int(alloc, *flags, values, rows),
+        _ => push_value(alloc, kind, *flags, values, rows),
+    }
+}
+
+// The row of one integer, or NULL, after its flags. The value is made where it stays.
+#[tactic(auto, unfolding(crate::specs::Reading::columns_at, crate::specs::Reading::column_at, crate::specs::Reading::value_at, crate::specs::Reading::int_at))]
+#[inline(always)]
+fn push_int<'a>(
+    alloc: Global,
+    flags: u8,
+    bytes: &'a [u8],
+    rows: &mut Vec<Row>,
+) -> Result<&'a [u8], Misread>
+    ensures read { Gives (λ rest. (rows.new.items, rest.now)) result (with_front rows.old.items (alone (columns_at (Kind.Int ∷ []) flags bytes.now))) }
+    ensures kept { take (length rows.old.items) rows.new.items ≡ rows.old.items }
+{
+    if flags % 2 == 1 {
+        return push_null(alloc, flags, bytes, rows);
+    }
+    let Some((number, rest)) = u64_at(bytes) else {
+        return Err(Misread::Absent);
+    };
+    if flags / 2 != 0 {
+        return Err(Misread::Absent);
+    }
+    rows.push(Row::one(alloc, Value::Int(number.cast_signed())))?;
+    Ok(rest)
+}
+
+// The row of one NULL.
+#[tactic(auto, unfolding(crate::specs::Reading::columns_at, crate::specs::Reading::column_at))]
+fn push_null<'a>(
+    alloc: Global,
+    flags: u8,
+    bytes: &'a [u8],
+    rows: &mut Vec<Row>,
+) -> Result<&'a [u8], Misread>
+    requires { flags % 2 ≡ 1 }
+    ensures read { Gives (λ rest. (rows.new.items, rest.now)) result (with_front rows.old.items (alone (columns_at (Kind.Int ∷ []) flags bytes.now))) }
+    ensures kept { take (length rows.old.items) rows.new.items ≡ rows.old.items }
+{
+    if flags / 2 != 0 {
+        return Err(Misread::Absent);
+    }
+    rows.push(Row::one(alloc, Value::Null))?;
+    Ok(bytes)
+}
+
+// The row of one value after its flags.
+#[tactic(auto, unfolding(crate::specs::Reading::columns_at))]
+fn push_value<'a>(
+    alloc: Global,
+    kind: Kind,
+    flags: u8,
+    bytes: &'a [u8],
+    rows: &mut Vec<Row>,
+) -> Result<&'a [u8], Misread>
+    ensures read { Gives (λ rest. (rows.new.items, rest.now)) result (with_front rows.old.items (alone (columns_at (kind ∷ []) flags bytes.now))) }
+    ensures kept { take (length rows.old.items) rows.new.items ≡ rows.old.items }
+{
+    let (value, rest) = column_at(alloc, kind, flags % 2 == 1, bytes)?;
+    if flags / 2 != 0 {
         return Err(Misread::Absent);
     }
     rows.push(Row::one(alloc, value))?;

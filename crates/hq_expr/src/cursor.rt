@@ -31,6 +31,7 @@ pub enum Start {
 }
 
 /// How a factor or a condition that begins with this lexeme begins.
+#[inline(always)]
 pub fn start_of(peek: Peek) -> Start
     ensures { result ≡ spec.start_of peek }
 {
@@ -42,6 +43,7 @@ pub fn start_of(peek: Peek) -> Start
     }
 }
 
+#[inline(always)]
 fn kind_of(lexeme: &Lexeme) -> Peek
     ensures { result ≡ spec.kind_of lexeme.now }
 {
@@ -114,6 +116,7 @@ impl Cursor {
     }
 
     /// What the next lexeme is.
+    #[inline(always)]
     pub fn peek(&self) -> Peek
         ensures { result ≡ spec.peek self.now.rest }
     {
@@ -124,6 +127,7 @@ impl Cursor {
     }
 
     /// Passes the next lexeme.
+    #[inline(always)]
     pub fn skip(&mut self)
         ensures { self.new ≡ spec.skipped self.old }
     {
@@ -131,6 +135,7 @@ impl Cursor {
     }
 
     /// One operator more.
+    #[inline(always)]
     pub fn spend(&mut self) -> Result<(), ParseFault>
         ensures { Reads (spec.spend self.old) result self.new }
     {
@@ -142,6 +147,7 @@ impl Cursor {
     }
 
     /// Whether the next lexeme is this word or sign.
+    #[inline(always)]
     pub fn sees(&self, mark: Mark) -> bool
         ensures { result ≡ spec.sees mark (spec.peek self.now.rest) }
     {
@@ -153,6 +159,7 @@ impl Cursor {
 
     /// Passes this word or sign. Syntax exactly where another lexeme, or none, comes next.
     #[tactic(auto, unfolding(crate::specs::Reader::expect))]
+    #[inline(always)]
     pub fn expect(&mut self, mark: Mark) -> Result<(), ParseFault>
         ensures { Reads (spec.expect mark self.old) result self.new }
     {
@@ -166,6 +173,7 @@ impl Cursor {
 
     /// Takes digits. Syntax exactly where none come next.
     #[tactic(auto, unfolding(crate::specs::Reader::digits))]
+    #[inline(always)]
     pub fn digits(&mut self) -> Result<u64, ParseFault>
         ensures { Reads (spec.digits self.old) result self.new }
     {
@@ -177,6 +185,7 @@ impl Cursor {
 
     /// Takes a name. Syntax exactly where none comes next.
     #[tactic(auto, unfolding(crate::specs::Reader::name))]
+    #[inline(always)]
     pub fn name(&mut self) -> Result<Name, ParseFault>
         ensures { Reads (spec.name self.old) result self.new }
     {
@@ -188,6 +197,7 @@ impl Cursor {
 
     /// Takes a text. Syntax exactly where none comes next.
     #[tactic(auto, unfolding(crate::specs::Reader::text))]
+    #[inline(always)]
     pub fn text(&mut self) -> Result<LongText, ParseFault>
         ensures { Reads (spec.text self.old) result self.new }
     {

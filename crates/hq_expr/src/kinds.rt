@@ -7,6 +7,7 @@ use crate::mark::Mark;
 use crate::tree::AggregateKind;
 use hq_value::{ArithKind, CompareKind};
 
+#[inline(always)]
 pub fn aggregates_at(peek: Peek) -> Option<AggregateKind>
     ensures { result ≡ spec.aggregates_at peek }
 {
@@ -33,6 +34,7 @@ pub fn compares_at(peek: Peek) -> Option<CompareKind>
     }
 }
 
+#[inline(always)]
 pub fn adds_at(peek: Peek) -> Option<ArithKind>
     ensures { result ≡ spec.adds_at peek }
 {
@@ -43,6 +45,7 @@ pub fn adds_at(peek: Peek) -> Option<ArithKind>
     }
 }
 
+#[inline(always)]
 pub fn multiplies_at(peek: Peek) -> Option<ArithKind>
     ensures { result ≡ spec.multiplies_at peek }
 {

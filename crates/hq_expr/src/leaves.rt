@@ -9,6 +9,7 @@ use crate::tree::{ColumnRef, Literal};
 
 const LIMIT: u64 = 0x8000_0000_0000_0000;
 
+#[inline(always)]
 fn positive(n: u64, cursor: &mut Cursor) -> Result<Literal, ParseFault>
     ensures { Reads (spec.number n cursor.old) result cursor.new }
 {
@@ -40,6 +41,7 @@ pub fn negated(cursor: &mut Cursor) -> Result<Literal, ParseFault>
 }
 
 #[tactic(auto, unfolding(crate::specs::Reading::literal))]
+#[inline(always)]
 pub fn literal(cursor: &mut Cursor) -> Result<Literal, ParseFault>
     ensures { Reads (spec.literal cursor.old) result cursor.new }
 {
@@ -71,6 +73,7 @@ pub fn literal(cursor: &mut Cursor) -> Result<Literal, ParseFault>
 }
 
 #[tactic(auto, unfolding(crate::specs::Reading::reference))]
+#[inline(always)]
 pub fn reference(cursor: &mut Cursor) -> Result<ColumnRef, ParseFault>
     ensures { Reads (spec.reference cursor.old) result cursor.new }
 {

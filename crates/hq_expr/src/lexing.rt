@@ -37,6 +37,7 @@ pub fn lexemes(alloc: Global, text: &str) -> Result<Vec<Lexeme>, ParseFault>
 }
 
 // What stands at the place `at`.
+#[inline(always)]
 fn step_in(text: &str, at: usize) -> Step
     requires { at ≤ length text.now }
     ensures value { result ≡ step_at at (drop at text.now) }
@@ -45,6 +46,7 @@ fn step_in(text: &str, at: usize) -> Step
     next_step(text.as_bytes(), at)
 }
 
+#[inline(always)]
 fn push(out: &mut Vec<Lexeme>, next: Lexeme) -> Result<(), ParseFault>
     ensures ok { OnOk result (out.new.items ≡ out.old.items ++ next ∷ []) }
     ensures err { IsErrOf result ParseFault.Syntax → ⊥ }
@@ -56,6 +58,7 @@ fn push(out: &mut Vec<Lexeme>, next: Lexeme) -> Result<(), ParseFault>
 }
 
 // A token of a text as the grammar reads it.
+#[inline(always)]
 fn lexeme(
     alloc: Global,
     text: &str,
@@ -88,6 +91,7 @@ fn quoted(alloc: Global, text: &str, start: usize, end: usize) -> Result<Lexeme,
 }
 
 // A word, digits or a sign.
+#[inline(always)]
 fn plain(alloc: Global, kind: TokenKind, token: &[u8]) -> Result<Lexeme, ParseFault>
     requires some { 0 < length token.now }
     requires plain { kind ≢ TokenKind.Text }

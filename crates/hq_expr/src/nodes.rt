@@ -6,6 +6,7 @@ use hq_value::{ArithKind, CompareKind};
 use sqlite_items::Boxed;
 use std::alloc::{AllocError, Global};
 
+#[inline(always)]
 pub fn arith(alloc: Global, kind: ArithKind, a: SqlExpr, b: SqlExpr) -> Result<SqlExpr, AllocError>
     ensures { IfOk result (λ e. e ≡ SqlExpr.Arith kind a b) }
 {

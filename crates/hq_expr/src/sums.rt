@@ -43,6 +43,7 @@ fn aggregate(
     }
 }
 
+#[inline(always)]
 fn plain(cursor: &mut Cursor) -> Result<SqlExpr, ParseFault>
     ensures { Reads (spec.plain (peek cursor.old.rest) cursor.old) result cursor.new }
 {
@@ -54,6 +55,7 @@ fn plain(cursor: &mut Cursor) -> Result<SqlExpr, ParseFault>
 
 #[cycle(sums)]
 #[tactic(auto, unfolding(crate::specs::Reading::operand))]
+#[inline(always)]
 pub fn operand(
     alloc: Global,
     cursor: &mut Cursor,
@@ -109,6 +111,7 @@ fn factor(alloc: Global, cursor: &mut Cursor, depth: u16, aggs: bool) -> Result<
 
 #[cycle(sums)]
 #[tactic(auto, unfolding(crate::specs::Reading::many, crate::specs::Reading::chain))]
+#[inline(always)]
 fn term(alloc: Global, cursor: &mut Cursor, depth: u16, aggs: bool) -> Result<SqlExpr, ParseFault>
     ensures { Reads (spec.term (spec.factor depth aggs) cursor.old) result cursor.new }
 {

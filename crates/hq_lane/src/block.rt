@@ -82,7 +82,6 @@ pub(crate) fn read_front<S: Store, R: Readable<S>>(
     ensures not_bad { IsErrOf result Stop.BadBlock → ⊥ }
     ensures cause { IsErrOf result Stop.Store → Rose (S.faults store.old) (S.faults store.new) }
 {
-    bytes.clear();
     let Ok(()) = bytes.resize(left.min(HEAD), 0) else {
         return Err(Stop::NoMemory);
     };
@@ -203,14 +202,46 @@ fn add_bytes<S: Store, R: Readable<S>>(
     ensures cause { IsErrOf result Stop.Store → Rose (S.faults store.old) (S.faults store.new) }
     ensures store { IsSteady S.faults S.sound store.old store.new }
 {
-    rest.clear();
-    let Ok(()) = rest.resize(count, 0) else {
-        return Err(Stop::NoMemory);
-    };
-    let Ok(()) = range.read(store, from, rest) else {
+    make_room(rest, count)?;
+    add_read(store, range, from, &mut rest[..count], bytes)
+}
+
+// As many bytes as that, or more, whatever they are.
+fn make_room(rest: &mut Vec<u8>, count: usize) -> Result<(), Stop>
+    ensures room { OnOk result (count ≤ vec_len rest.new) }
+    ensures not_bad { IsErrOf result Stop.BadBlock → ⊥ }
+    ensures not_store { IsErrOf result Stop.Store → ⊥ }
+{
+    if rest.len() < count {
+        let Ok(()) = rest.resize(count, 0) else {
+            return Err(Stop::NoMemory);
+        };
+    }
+    Ok(())
+}
+
+// Fills `part` with the bytes from `from` on, and adds them.
+fn add_read<S: Store, R: Readable<S>>(
+    store: &mut S,
+    range: &R,
+    from: u64,
+    part: &mut [u8],
+    bytes: &mut Vec<u8>,
+) -> Result<(), Stop>
+    requires some { 0 < length part.old }
+    requires within { from + length part.old ≤ R.end range.now }
+    ensures long { OnOk result (vec_len bytes.new ≡ vec_len bytes.old + length part.old) }
+    ensures front { OnOk result (take (length bytes.old.items) bytes.new.items ≡ bytes.old.items) }
+    ensures told { OnOk result (IsTrue (R.tells range.now) → bytes.new.items ≡ bytes.old.items ++ slice_range (R.bytes range.now) from (from + length part.old)) }
+    ensures gave { OnOk result (GoesOnGiving S.faults S.given S.sound (length part.old) store.old store.new) }
+    ensures not_bad { IsErrOf result Stop.BadBlock → ⊥ }
+    ensures cause { IsErrOf result Stop.Store → Rose (S.faults store.old) (S.faults store.new) }
+    ensures store { IsSteady S.faults S.sound store.old store.new }
+{
+    let Ok(()) = range.read(store, from, part) else {
         return Err(Stop::Store);
     };
-    let Ok(()) = bytes.extend_from_slice(rest) else {
+    let Ok(()) = bytes.extend_from_slice(part) else {
         return Err(Stop::NoMemory);
     };
     Ok(())

@@ -48,7 +48,7 @@ impl<F: StoredFile, Z: SealCopy> Model for BucketFile<F, Z> {
 
 impl<F: StoredFile, Z: SealCopy> BucketFile<F, Z> {
     ghost use Rattle.hq_store.specs.FileStep.{HasNoTail};
-    ghost use Rattle.hq_lane.specs.BucketFiles.{no_file, found_file, is_clean, file_bytes, base_bytes, good_bytes, IsGrown, IsCutBack, IsTornBack, KeepsBase, StaysIfClean, KeepsBytes, IsFlushed, IsSealed, KeepsFile, published};
+    ghost use Rattle.hq_lane.specs.BucketFiles.{no_file, found_file, is_clean, file_bytes, base_bytes, good_bytes, IsGrown, IsCutBack, IsTornBack, KeepsBase, StaysIfClean, KeepsBytes, IsFlushed, IsSealed, IsSound, KeepsFile, published};
 
     /// No file.
     pub(crate) fn empty(id: FileId) -> Self
@@ -241,6 +241,7 @@ impl<F: StoredFile, Z: SealCopy> BucketFile<F, Z> {
         ensures within { ForSome self.old.fresh (λ z. z.len ≤ self.old.good) }
         ensures committed { ForSome self.old.fresh (λ z. IsTrue F.tells → IsTrue Z.tells → base_bytes (published self.old) ≡ z.bytes) }
         ensures just { self.old.torn ≡ false → IsTrue F.tells → file_bytes self.old.file ≡ good_bytes self.old }
+        ensures sound { IsSound F.tells Z.tells self.old }
     {
         let seal = self.fresh.take()?;
         self.base = seal.len();

@@ -3,7 +3,7 @@ ghost use Rattle.std.specs.Prelude.{◌≡◌, ◌<◌, ◌≤◌, ◌↔◌, �
 ghost use Rattle.std.specs.Option.{ForSome};
 ghost use Rattle.hq_value.specs.Causes.{Rose, GoesOn};
 ghost use Rattle.hq_store.specs.FileStep.{HasNoTail};
-ghost use Rattle.hq_lane.specs.BucketFiles.{found_file, file_bytes, base_bytes, good_bytes, IsCutBack, KeepsBase, StaysIfClean, KeepsBytes, KeepsFile, published};
+ghost use Rattle.hq_lane.specs.BucketFiles.{found_file, file_bytes, base_bytes, good_bytes, IsCutBack, KeepsBase, StaysIfClean, KeepsBytes, KeepsFile, IsSound, published};
 
 use crate::bucket_files::{all_clean, cut_all, flush_each, seal_each};
 use crate::slot::{Slot, Slots, no_slots};
@@ -144,6 +144,7 @@ impl<F: StoredFile, Z: SealCopy> Lane<F, Z> {
             → base_bytes (published (file_of self.old.files bucket)) ≡ z.bytes) }
         ensures just { (file_of self.old.files bucket).torn ≡ false → IsTrue F.tells
             → file_bytes (file_of self.old.files bucket).file ≡ good_bytes (file_of self.old.files bucket) }
+        ensures sound { IsSound F.tells Z.tells (file_of self.old.files bucket) }
         ensures sixteen { length self.old.files ≡ 16 }
     {
         self.files[bucket as usize].publish()

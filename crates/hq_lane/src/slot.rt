@@ -4,7 +4,7 @@ ghost use Rattle.std.specs.Option.{ForSome};
 ghost use Rattle.hq_value.specs.Causes.{Rose, GoesOn};
 ghost use Rattle.hq_value.specs.Kinds.{Fits};
 ghost use Rattle.hq_block.specs.Block.{FileRows, pack};
-ghost use Rattle.hq_lane.specs.BucketFiles.{no_file, found_file, is_clean, file_bytes, base_bytes, good_bytes, IsGrown, IsCutBack, IsTornBack, KeepsBase, StaysIfClean, KeepsBytes, IsFlushed, IsSealed, KeepsFile, published};
+ghost use Rattle.hq_lane.specs.BucketFiles.{no_file, found_file, is_clean, file_bytes, base_bytes, good_bytes, IsGrown, IsCutBack, IsTornBack, KeepsBase, StaysIfClean, KeepsBytes, IsFlushed, IsSealed, IsSound, KeepsFile, published};
 ghost use Rattle.hq_store.specs.FileStep.{HasNoTail};
 ghost use Rattle.hq_lane.specs.Lanes.{id_of, no_files};
 ghost use Rattle.hq_lane.specs.Packing.{GrewByFirst};
@@ -250,6 +250,7 @@ impl<F: StoredFile, Z: SealCopy> Slot<F, Z> {
         ensures within { ForSome self.old.fresh (λ z. z.len ≤ self.old.good) }
         ensures committed { ForSome self.old.fresh (λ z. IsTrue F.tells → IsTrue Z.tells → base_bytes (published self.old) ≡ z.bytes) }
         ensures just { self.old.torn ≡ false → IsTrue F.tells → file_bytes self.old.file ≡ good_bytes self.old }
+        ensures sound { IsSound F.tells Z.tells self.old }
     {
         match &mut self.held {
             Some(held) => held.publish(),
