@@ -1,21 +1,16 @@
 -- Lanes that are adopted or come home.
-use Rattle.std.proofs.Common.{◌≡◌, ◌≢◌, ◌⊎◌, ℕ, zero, suc, ◌+◌, ◌*◌, ◌<◌, ◌≤◌, ◌&&◌, eqb, Bool, true, false, not, cond, List, [], ◌∷◌, ◌++◌, length, map, replicate, Option, Some, None, option_map, unwrap_or, slice_index_or, slice_set, slice_get, refl, sym, ◌∙◌, ap, subst, arith, inl, inr}
-use Rattle.std.proofs.lemmas.Bool.{eqb-true, cases_Bool}
-use Rattle.std.specs.List.{list_all, list_any}
-use Rattle.std.proofs.lemmas.List.Folds.{list_all_at}
-use Rattle.hq_value.specs.declared.entry.EntryKind.{EntryKind}
+use Rattle.std.proofs.Common.{◌≡◌, ◌≢◌, ◌⊎◌, ℕ, zero, suc, ◌<◌, ◌≤◌, ◌&&◌, eqb, Bool, true, false, not, cond, List, [], ◌∷◌, ◌++◌, length, replicate, Some, option_map, unwrap_or, slice_set, slice_get, refl, sym, ◌∙◌, ap, subst, arith, inl, inr}
+use Rattle.std.proofs.lemmas.Bool.{eqb-true}
 use Rattle.hq_value.specs.declared.entry.EntryKind.TheVariants as entry
-use Rattle.hq_value.specs.Tables.{Definition}
 use Rattle.hq_log.specs.declared.place.Place.{Place}
 use Rattle.hq_log.specs.declared.place.Place.TheVariants as place
 use Rattle.hq_log.specs.Places.{is_out, passes_at}
 use Rattle.hq_log.specs.Pools.{pool, home}
 use Rattle.hq_log.specs.Legal.{IsAt, IsLawful}
-use Rattle.hq_lane.specs.Lanes.{LaneState, file_of, id_of, are_clean, AreClean, HaveNoSeal}
-use Rattle.hq_lane.specs.BucketFiles.{BucketState, is_clean, no_file}
+use Rattle.hq_lane.specs.Lanes.{LaneState, file_of, are_clean}
+use Rattle.hq_lane.specs.BucketFiles.{BucketState, is_clean}
 use Rattle.hq_history.specs.declared.noted.Deposit.TheVariants.{Nothing}
 use Rattle.hq_history.specs.History.{entries_of}
-use Rattle.hq_history.specs.Deposits.{tables_left}
 use Rattle.hq_pool.specs.declared.slot.Slot.{Slot}
 use Rattle.hq_pool.specs.declared.slot.Slot.TheVariants as slot
 use Rattle.hq_pool.specs.Slots as slots
@@ -24,7 +19,7 @@ use Rattle.hq_catalog.specs.Lanes.{IsHeld}
 use Rattle.hq_catalog.specs.State.{TableState, CatState, table_in, unmade, no_slots, places_in}
 use Rattle.hq_catalog.specs.History.{history}
 use Rattle.hq_catalog.specs.CatStep.{noted}
-use Rattle.hq_catalog.specs.Kept.{IsCatalogue, IsTable, IsAtHome, IsOwn, IsOwnClean, slot_at, home_slot, owes, owed}
+use Rattle.hq_catalog.specs.Kept.{IsCatalogue, IsAtHome, IsOwn, slot_at, home_slot, owes}
 use Rattle.hq_catalog.proofs.History.{history-entries}
 use Rattle.hq_catalog.proofs.Quiet.{Keeps}
 use Rattle.hq_snap.proofs.Elements.{below_or}

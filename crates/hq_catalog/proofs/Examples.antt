@@ -6,9 +6,9 @@ use Rattle.hq_value.specs.declared.entry.EntryKind.TheVariants as entry
 use Rattle.hq_value.specs.declared.table.Column.{Column}
 use Rattle.hq_value.specs.declared.kind.Kind.TheVariants as kind
 use Rattle.hq_value.specs.Tables.{Definition}
-use Rattle.hq_store.specs.FileStep.{FileState, SealState}
+use Rattle.hq_store.specs.FileStep.{SealState}
 use Rattle.hq_lane.specs.BucketFiles.{BucketState, no_file}
-use Rattle.hq_lane.specs.Lanes.{LaneState, id_of}
+use Rattle.hq_lane.specs.Lanes.{LaneState}
 use Rattle.hq_log.specs.declared.place.Next.TheVariants as which
 use Rattle.hq_log.specs.Places.{next_place}
 use Rattle.hq_history.specs.declared.noted.Noted.{Noted}
@@ -21,7 +21,7 @@ use Rattle.hq_catalog.specs.declared.ask.Answer.TheVariants as answer
 use Rattle.hq_catalog.specs.Files.{last_change, table_named}
 use Rattle.hq_catalog.specs.Lanes.{growths_of}
 use Rattle.hq_catalog.specs.Looks.{numbers_in, IsSeenSeal}
-use Rattle.hq_catalog.specs.CatStep.{noted, places_of, Notes, CreateStep, CommitStep, BackStep}
+use Rattle.hq_catalog.specs.CatStep.{noted, places_of, CreateStep, CommitStep, BackStep}
 
 -- t (a INT)
 abbrev column : Column

@@ -1,24 +1,22 @@
 -- The history of a catalogue, and what it is once the catalogue has one entry more.
-use Rattle.std.proofs.Common.{◌≡◌, ◌≢◌, ℕ, zero, suc, ◌+◌, ◌<◌, ◌≤◌, ◌==◌, eqb, Bool, true, false, cond, List, [], ◌∷◌, ◌++◌, length, map, take, drop, Option, Some, None, IsTrue, refl, sym, ◌∙◌, ap, subst, arith, eq-eqb, length-append}
+use Rattle.std.proofs.Common.{◌≡◌, ◌≢◌, ℕ, suc, ◌+◌, ◌<◌, ◌≤◌, ◌==◌, Bool, true, false, cond, List, [], ◌∷◌, ◌++◌, length, map, Some, None, refl, sym, ◌∙◌, ap, arith, eq-eqb}
 use Rattle.std.specs.List.{AllByRecursion, filter, find}
 use Rattle.std.proofs.lemmas.Bool.{eqb-true}
-use Rattle.std.proofs.lemmas.List.{append-nil, append_assoc, take-append-le}
+use Rattle.std.proofs.lemmas.List.{append-nil}
 use Rattle.hq_value.specs.declared.entry.Entry.{Entry}
 use Rattle.hq_value.specs.declared.entry.EntryKind.{EntryKind}
 use Rattle.hq_value.specs.declared.entry.EntryKind.TheVariants as entry
 use Rattle.hq_value.specs.declared.entry.FileId.{FileId}
 use Rattle.hq_history.specs.declared.noted.Noted.{Noted}
-use Rattle.hq_history.specs.declared.noted.Growth.{Growth}
 use Rattle.hq_history.specs.declared.noted.Deposit.{Deposit}
-use Rattle.hq_history.specs.declared.noted.Deposit.TheVariants.{Nothing, Made, Added, Published}
+use Rattle.hq_history.specs.declared.noted.Deposit.TheVariants.{Nothing, Published}
 use Rattle.hq_history.specs.History.{entries_of}
 use Rattle.hq_history.specs.Deposits.{growths_in}
-use Rattle.hq_snap.specs.Snaps.{seal_bytes}
 use Rattle.hq_catalog.specs.declared.kept.Change.{Change}
 use Rattle.hq_catalog.specs.declared.kept.Change.TheVariants as change
 use Rattle.hq_catalog.specs.declared.kept.Grown.{Grown}
 use Rattle.hq_catalog.specs.Files.{is_among, last_change, last_change_from}
-use Rattle.hq_catalog.specs.State.{TableState, CatState, seal_of}
+use Rattle.hq_catalog.specs.State.{TableState, CatState}
 use Rattle.hq_catalog.specs.History.{history, history_from, deposit_at, deposit_of, is_change_at, is_grown_at, growth_of}
 use Rattle.hq_catalog.specs.Kept.{place_of, IsPast}
 

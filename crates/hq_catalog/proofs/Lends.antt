@@ -1,19 +1,17 @@
 -- What a pool lends, as an answer and as an entry.
-use Rattle.std.proofs.Common.{◌≡◌, ◌≢◌, ◌⊎◌, ℕ, zero, suc, ◌+◌, ◌<◌, ◌≤◌, ◌==◌, eqb, Bool, true, false, cond, List, [], ◌∷◌, ◌++◌, length, map, take, Option, Some, None, slice_index_or, slice_set, slice_get, position, refl, sym, ◌∙◌, ap, subst, arith, inl, inr}
-use Rattle.std.specs.List.{list_any, list_all}
+use Rattle.std.proofs.Common.{◌≡◌, ℕ, zero, suc, ◌<◌, Bool, true, List, [], ◌∷◌, ◌++◌, length, map, take, Some, slice_index_or, slice_set, slice_get, refl, sym, ◌∙◌, ap, subst, arith, inl, inr}
+use Rattle.std.specs.List.{list_all}
 use Rattle.hq_value.specs.declared.entry.FileId.{FileId}
 use Rattle.hq_value.specs.declared.entry.EntryKind.{EntryKind}
 use Rattle.hq_value.specs.declared.entry.EntryKind.TheVariants as entry
-use Rattle.hq_log.specs.declared.place.Place.{Place}
 use Rattle.hq_log.specs.declared.place.Next.{Next}
 use Rattle.hq_log.specs.declared.place.Next.TheVariants as which
-use Rattle.hq_log.specs.Places.{is_dirty, is_out, next_place}
+use Rattle.hq_log.specs.Places.{is_out, next_place}
 use Rattle.hq_log.specs.Pools.{pool}
-use Rattle.hq_log.specs.Legal.{HasNoLane, HasNoDirty, IsFirstDirty, IsLawful}
-use Rattle.hq_log.proofs.Nexts.{next_place-AllOut, none_passes}
+use Rattle.hq_log.specs.Legal.{HasNoLane}
+use Rattle.hq_log.proofs.Nexts.{next_place-AllOut}
 use Rattle.hq_lane.specs.Lanes.{LaneState, no_files, file_of, id_of}
 use Rattle.hq_lane.specs.BucketFiles.{BucketState, no_file, base_bytes}
-use Rattle.hq_history.specs.declared.noted.Noted.{Noted}
 use Rattle.hq_history.specs.declared.noted.Deposit.TheVariants.{Nothing}
 use Rattle.hq_history.specs.History.{entries_of}
 use Rattle.hq_pool.specs.declared.slot.Slot.{Slot}
@@ -22,17 +20,15 @@ use Rattle.hq_pool.specs.declared.lent.Lent.{Lent}
 use Rattle.hq_pool.specs.declared.lent.Lent.TheVariants as lent
 use Rattle.hq_pool.specs.Slots as slots
 use Rattle.hq_pool.specs.Lends as pools
-use Rattle.hq_catalog.specs.declared.ask.Answer.{Answer}
-use Rattle.hq_catalog.specs.declared.ask.Answer.TheVariants as answer
-use Rattle.hq_catalog.specs.Lanes.{IsGiven, IsGivenClean, fresh_lane}
+use Rattle.hq_catalog.specs.Lanes.{fresh_lane}
 use Rattle.hq_snap.specs.Snaps.{seal_len, seal_bytes}
-use Rattle.hq_catalog.specs.State.{TableState, CatState, table_in, unmade, places_in}
+use Rattle.hq_catalog.specs.State.{TableState, CatState, table_in, unmade}
 use Rattle.hq_catalog.specs.History.{history}
 use Rattle.hq_catalog.specs.CatStep.{noted, LendsNext, LendStep}
-use Rattle.hq_catalog.specs.Kept.{IsTable, IsAtHome, IsOwn, IsOwnClean, IsCatalogue, slot_at, answer_of}
+use Rattle.hq_catalog.specs.Kept.{IsTable, IsAtHome, IsOwnClean, IsCatalogue, slot_at, answer_of}
 use Rattle.hq_catalog.proofs.History.{history-entries}
 use Rattle.hq_catalog.proofs.Quiet.{Keeps}
-use Rattle.hq_catalog.proofs.Moves.{with_parts, entry_by, with_slot, still, moved, given, given_clean}
+use Rattle.hq_catalog.proofs.Moves.{with_parts, entry_by, still, moved, given, given_clean}
 
 -- the slot at a place that is there
 pub got : (ss : List (Slot LaneState)) (n : ℕ) (s : Slot LaneState) → slice_get ss n ≡ Some s → (slot_at ss n ≡ s) × (n < length ss)

@@ -1,13 +1,23 @@
 pub mod Backs
+pub mod Causes
+pub mod Committed
+pub mod Committing
 mod Examples
+pub mod Growths
 pub mod History
+pub mod Leaving
+pub mod LeftKinds
 pub mod Lends
+pub mod Looks
 pub mod Makes
 pub mod Moves
 pub mod Others
 pub mod Parts
+pub mod Plans
 pub mod Quiet
 pub mod Rooms
+pub mod Sealed
 pub mod Seen
 pub mod Standing
 pub mod Sweeps
+pub mod Taken

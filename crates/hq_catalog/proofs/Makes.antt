@@ -1,6 +1,6 @@
 -- Tables that are made, and columns that are added.
-use Rattle.std.proofs.Common.{◌≡◌, ◌≢◌, ℕ, zero, suc, ◌+◌, ◌<◌, ◌≤◌, ◌||◌, Bool, true, false, not, cond, List, [], ◌∷◌, ◌++◌, length, map, replicate, Option, Some, None, MatchOption, slice_index_or, slice_set, slice_get, position, refl, sym, ◌∙◌, ap, subst, arith, inl, inr, length-append}
-use Rattle.std.specs.List.{AllByRecursion, find, list_any}
+use Rattle.std.proofs.Common.{◌≡◌, ℕ, zero, suc, ◌+◌, ◌<◌, ◌||◌, Bool, true, false, not, cond, List, [], ◌∷◌, ◌++◌, length, map, replicate, Option, Some, None, MatchOption, slice_set, slice_get, position, refl, sym, ◌∙◌, ap, subst, arith, inl, inr, length-append}
+use Rattle.std.specs.List.{list_any}
 use Rattle.std.proofs.lemmas.Bool.{cases_eq}
 use Rattle.std.proofs.lemmas.Cmp.{nat_list_eq_equiv}
 use Rattle.std.proofs.lemmas.List.{get_or_past, length-set, length-replicate, length-map, map-append}
@@ -10,7 +10,6 @@ use Rattle.hq_value.specs.declared.entry.Entry.{Entry}
 use Rattle.hq_value.specs.declared.entry.EntryKind.TheVariants as entry
 use Rattle.hq_value.specs.declared.table.Column.{Column}
 use Rattle.hq_value.specs.Tables.{Definition, same_names, with_column, column_refusal}
-use Rattle.hq_log.specs.declared.place.Place.{Place}
 use Rattle.hq_store.specs.FileStep.{SealState}
 use Rattle.hq_lane.specs.Lanes.{LaneState, id_of}
 use Rattle.hq_history.specs.declared.noted.Deposit.TheVariants.{Made, Added}
@@ -21,15 +20,14 @@ use Rattle.hq_pool.specs.Slots as slots
 use Rattle.hq_pool.proofs.Found.{position-map}
 use Rattle.hq_snap.specs.Snaps.{seal_in, change_in, lane_in, changes_in}
 use Rattle.hq_snap.proofs.Elements.{below_or, get_same}
-use Rattle.hq_catalog.specs.declared.kept.Change.{Change}
 use Rattle.hq_catalog.specs.declared.kept.Change.TheVariants as change
-use Rattle.hq_catalog.specs.Files.{is_named, def_in, no_table, table_named}
+use Rattle.hq_catalog.specs.Files.{is_named, def_in, table_named}
 use Rattle.hq_catalog.specs.State.{TableState, CatState, table_in, unmade, no_slots, places_in, seal_of, change_of}
-use Rattle.hq_catalog.specs.History.{history, deposit_of, is_change_at}
+use Rattle.hq_catalog.specs.History.{history, deposit_of}
 use Rattle.hq_catalog.specs.CatStep.{noted}
-use Rattle.hq_catalog.specs.Kept.{IsCatalogue, IsTable, IsAtHome, slot_at, owed, owed_by, owes, place_of}
+use Rattle.hq_catalog.specs.Kept.{IsCatalogue, IsTable, IsAtHome, slot_at}
 use Rattle.hq_catalog.proofs.History.{found_last, changes_stay, push_changes, further_changes}
-use Rattle.hq_catalog.proofs.Quiet.{Keeps, IsQuiet, quiet}
+use Rattle.hq_catalog.proofs.Quiet.{Keeps, quiet}
 use Rattle.hq_catalog.proofs.Moves.{with_parts, entry_by, each_table}
 
 -- the names of tables, and their definitions, are asked alike

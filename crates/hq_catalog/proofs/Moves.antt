@@ -1,40 +1,33 @@
 -- Entries that move one lane or none.
-use Rattle.std.proofs.Common.{◌≡◌, ◌≢◌, ◌⊎◌, ℕ, zero, suc, ◌+◌, ◌*◌, ◌<◌, ◌≤◌, ◌==◌, ◌&&◌, eqb, Bool, true, false, not, cond, List, [], ◌∷◌, ◌++◌, length, map, take, Option, Some, None, IsTrue, slice_index_or, slice_set, slice_get, position, refl, sym, ◌∙◌, ap, subst, arith, inl, inr, eq-eqb, length-append}
-use Rattle.std.specs.List.{AllByRecursion, find, list_any, sum_by}
-use Rattle.std.proofs.lemmas.Bool.{cases_eq, eqb-true}
-use Rattle.std.proofs.lemmas.List.{get_or-set_same, get_or-set_other, length-set, map-set, append-nil}
-use Rattle.std.proofs.lemmas.List.Sums.{sum_by-set}
+use Rattle.std.proofs.Common.{◌≡◌, ◌≢◌, ℕ, ◌<◌, eqb, Bool, false, cond, List, [], ◌∷◌, ◌++◌, length, Option, slice_set, refl, sym, ◌∙◌, ap, subst, arith, inl, inr, eq-eqb, length-append}
+use Rattle.std.proofs.lemmas.Bool.{cases_eq}
+use Rattle.std.proofs.lemmas.List.{get_or-set_same, get_or-set_other, length-set, map-set}
 use Rattle.std.proofs.Math.Seq.{map-set_same}
 use Rattle.hq_value.specs.declared.entry.Entry.{Entry}
 use Rattle.hq_value.specs.declared.entry.EntryKind.{EntryKind}
 use Rattle.hq_value.specs.declared.entry.EntryKind.TheVariants as entry
-use Rattle.hq_value.specs.Tables.{Definition}
 use Rattle.hq_log.specs.declared.place.Place.{Place}
-use Rattle.hq_log.specs.declared.place.Place.TheVariants as place
-use Rattle.hq_log.specs.Pools.{pool, places_after}
+use Rattle.hq_log.specs.Pools.{places_after}
 use Rattle.hq_log.specs.Marks.{marks_after}
 use Rattle.hq_log.specs.Legal.{IsLawful}
 use Rattle.hq_store.specs.FileStep.{SealState}
-use Rattle.hq_lane.specs.Lanes.{LaneState, id_of, file_of, are_clean, AreClean, HaveNoSeal}
-use Rattle.hq_lane.specs.BucketFiles.{BucketState, is_clean, base_bytes}
-use Rattle.hq_history.specs.declared.noted.Noted.{Noted}
+use Rattle.hq_lane.specs.Lanes.{LaneState, id_of, HaveNoSeal}
 use Rattle.hq_history.specs.declared.noted.Deposit.TheVariants.{Nothing}
-use Rattle.hq_history.specs.History.{entries_of}
 use Rattle.hq_history.specs.Deposits.{length_left, bytes_left}
 use Rattle.hq_pool.specs.declared.slot.Slot.{Slot}
 use Rattle.hq_pool.specs.declared.slot.Slot.TheVariants as slot
 use Rattle.hq_pool.specs.Slots as slots
-use Rattle.hq_snap.specs.Snaps.{seal_in, seal_len, seal_bytes, change_in}
+use Rattle.hq_snap.specs.Snaps.{seal_in, change_in}
 use Rattle.hq_catalog.specs.declared.kept.Change.{Change}
 use Rattle.hq_catalog.specs.declared.kept.Grown.{Grown}
 use Rattle.hq_catalog.specs.Lanes.{Agrees, IsGiven, IsGivenClean}
 use Rattle.hq_catalog.specs.State.{TableState, CatState, table_in, unmade, places_in, seal_of, change_of}
-use Rattle.hq_catalog.specs.History.{history, deposit_at, is_change_at}
+use Rattle.hq_catalog.specs.History.{history}
 use Rattle.hq_catalog.specs.Stands.{is_restart}
 use Rattle.hq_catalog.specs.CatStep.{noted}
-use Rattle.hq_catalog.specs.Kept.{IsTable, IsAtHome, IsOwn, IsOwnClean, IsCatalogue, slot_at, place_of, owes, owed_by, owed}
-use Rattle.hq_catalog.proofs.History.{other_place, nothing_left, none_found, push_changes, further_changes, history-entries}
-use Rattle.hq_catalog.proofs.Quiet.{Keeps, IsQuiet, quiet}
+use Rattle.hq_catalog.specs.Kept.{IsTable, IsAtHome, IsOwn, IsOwnClean, IsCatalogue, slot_at}
+use Rattle.hq_catalog.proofs.History.{other_place, nothing_left, none_found, further_changes}
+use Rattle.hq_catalog.proofs.Quiet.{Keeps, quiet}
 
 -- one of the tables changes
 pub table_same : (ts : List TableState) (t : ℕ) (y : TableState) → t < length ts → table_in (slice_set ts t y) t ≡ y

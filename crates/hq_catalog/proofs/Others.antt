@@ -1,6 +1,6 @@
 -- What a session may ask it may still ask, once others have added to the history.
-use Rattle.std.proofs.Common.{◌≡◌, ◌≢◌, ◌⊎◌, ℕ, zero, suc, ◌+◌, ◌<◌, ◌≤◌, ◌==◌, ◌&&◌, eqb, Bool, true, false, cond, List, [], ◌∷◌, ◌++◌, length, map, take, Option, Some, None, slice_get, slice_index_or, refl, sym, ◌∙◌, ap, subst, arith, inl, inr, eq-eqb, length-append}
-use Rattle.std.specs.List.{list_any, AllByRecursion}
+use Rattle.std.proofs.Common.{◌≡◌, ◌≢◌, ◌⊎◌, ℕ, zero, suc, ◌<◌, ◌≤◌, ◌==◌, ◌&&◌, eqb, Bool, true, false, cond, List, [], ◌∷◌, ◌++◌, length, take, Option, Some, slice_get, refl, sym, ◌∙◌, ap, subst, arith, inl, inr, eq-eqb, length-append}
+use Rattle.std.specs.List.{AllByRecursion}
 use Rattle.std.proofs.lemmas.Bool.{eqb-true}
 use Rattle.std.proofs.lemmas.List.{append-nil, append_assoc, take-append-le}
 use Rattle.std.proofs.lemmas.List.Sums.{fold-append}
@@ -8,16 +8,15 @@ use Rattle.std.proofs.Math.ListN.{get_or-append}
 use Rattle.hq_value.specs.declared.entry.Entry.{Entry}
 use Rattle.hq_value.specs.declared.entry.FileId.{FileId}
 use Rattle.hq_value.specs.declared.table.Column.{Column}
-use Rattle.hq_value.specs.Tables.{Definition, with_column}
+use Rattle.hq_value.specs.Tables.{Definition}
 use Rattle.hq_value.specs.Kinds.{kinds_of}
 use Rattle.hq_block.specs.Block.{FileRows}
 use Rattle.hq_log.specs.declared.place.Place.{Place}
 use Rattle.hq_log.specs.declared.place.Place.TheVariants.{Out, Sweeping}
-use Rattle.hq_log.specs.Places.{is_out_to, is_swept_by, is_held_by}
 use Rattle.hq_log.specs.Pools.{pool, places_after, unborn_places}
 use Rattle.hq_log.specs.Legal.{IsAt, IsLawful, AreLawful, IsLegal}
 use Rattle.hq_lane.specs.Lanes.{LaneState, id_of, file_of}
-use Rattle.hq_lane.specs.BucketFiles.{base_bytes, own_bytes}
+use Rattle.hq_lane.specs.BucketFiles.{own_bytes}
 use Rattle.hq_history.specs.declared.noted.Noted.{Noted}
 use Rattle.hq_history.specs.declared.noted.Growth.{Growth}
 use Rattle.hq_history.specs.declared.noted.Deposit.{Deposit}
@@ -25,12 +24,11 @@ use Rattle.hq_history.specs.declared.noted.Deposit.TheVariants.{Nothing, Made, A
 use Rattle.hq_history.specs.History.{entries_of, by, GrewByOthers}
 use Rattle.hq_history.specs.Deposits.{tables_left, tables_after, with_added, growths_in, is_same_file, length_left, length_after, bytes_left, bytes_of}
 use Rattle.hq_history.proofs.Files.{length_left-push, bytes_left-push}
-use Rattle.hq_snap.specs.declared.scope.Have.{Have}
 use Rattle.hq_catalog.specs.declared.ask.Ask.{Ask}
 use Rattle.hq_catalog.specs.declared.ask.Ask.TheVariants as ask
 use Rattle.hq_catalog.specs.Files.{def_in, def_at, no_table, FitBytes, GoTo}
-use Rattle.hq_catalog.specs.Lanes.{IsOut, IsSwept, IsHeld, Agrees}
-use Rattle.hq_catalog.specs.Asks.{MayLook, MayLend, MayAdopt, MayBack, MayCommitOne, MayCommit, MayAsk, lane_at, HasLane}
+use Rattle.hq_catalog.specs.Lanes.{Agrees}
+use Rattle.hq_catalog.specs.Asks.{MayCommitOne, MayAsk, lane_at}
 use Rattle.hq_catalog.specs.Stands.{IsOwnGrowth, IsOwnStep, AreOwnSteps}
 use Rattle.hq_catalog.proofs.Seen.{SeesSame, entry_seen, out_same, swept_same, same_held, same_out, same_swept}
 

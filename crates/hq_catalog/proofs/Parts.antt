@@ -1,13 +1,15 @@
 -- Books with one entry more.
-use Rattle.std.proofs.Common.{◌≡◌, ◌≢◌, ◌⊎◌, ℕ, zero, suc, ◌+◌, ◌*◌, ◌<◌, ◌≤◌, ltb, cond, Bool, true, false, List, [], ◌∷◌, ◌++◌, length, map, Option, Some, None, Result, Ok, Err, position, slice_get, slice_index_or, slice_set, refl, sym, ◌∙◌, ap, subst, arith, inl, inr}
-use Rattle.std.specs.List.{list_any}
+use Rattle.std.proofs.Common.{◌≡◌, ℕ, ◌+◌, ◌<◌, ◌≤◌, ltb, cond, Bool, true, false, List, [], ◌∷◌, ◌++◌, length, map, Option, Some, None, Result, Ok, Err, position, slice_get, slice_index_or, slice_set, refl, sym, ◌∙◌, ap, subst, arith, inl, inr}
+use Rattle.std.specs.List.{list_any, find, position_or_len}
 use Rattle.std.specs.Result.{is_err, OnOk}
 use Rattle.std.proofs.lemmas.Bool.{cases_eq}
+use Rattle.std.proofs.lemmas.Bool.Decides.{nat_tests}
 use Rattle.std.proofs.lemmas.List.{get_or_default, length-map}
+use Rattle.std.proofs.lemmas.List.Folds.{find_at}
+use Rattle.std.proofs.lemmas.Option.{slice_get-get_or, slice_get_past}
 use Rattle.std.proofs.Math.Seq.{map-set_same}
 use Rattle.hq_value.specs.declared.entry.EntryKind.TheVariants as entry
 use Rattle.hq_value.specs.Tables.{Definition}
-use Rattle.hq_log.specs.Marks.{marks_after}
 use Rattle.hq_log.specs.Places.{is_dirty}
 use Rattle.hq_log.proofs.Nexts.{none_passes}
 use Rattle.hq_lane.specs.Lanes.{LaneState, are_clean}
@@ -16,7 +18,10 @@ use Rattle.hq_pool.specs.declared.slot.Slot.TheVariants as slot
 use Rattle.hq_pool.specs.Slots as slots
 use Rattle.hq_pool.specs.Lends.{SweepsLane, SweepsAny}
 use Rattle.hq_history.specs.Deposits.{tables_left}
+use Rattle.hq_snap.specs.declared.scope.Have.{Have}
+use Rattle.hq_catalog.specs.Copies.{is_had}
 use Rattle.hq_catalog.specs.History.{history}
+use Rattle.hq_catalog.specs.Looks.{have_at, place_or_first}
 use Rattle.hq_history.specs.declared.noted.Noted.{Noted}
 use Rattle.hq_history.specs.declared.noted.Deposit.TheVariants.{Nothing}
 use Rattle.hq_catalog.specs.State.{TableState, CatState, table_in, unmade, places_in}
@@ -48,6 +53,28 @@ marked told c k m node up ok within = still told c (slice_set c.marks node up) k
 -- the names stay where the definitions do
 pub names_moved : (ts : List TableState) (t : ℕ) (y : TableState) → y.def.name ≡ (table_in ts t).def.name → map (λ (x : TableState). x.def.name) (slice_set ts t y) ≡ map (λ (x : TableState). x.def.name) ts
 names_moved ts t y e = map-set_same (λ (x : TableState). x.def.name) ts t y unmade e
+
+-- the place at which a session has a table
+pos_by : (b : Bool) (n i : ℕ) → cond b (Some n) None ≡ Some i → (b ≡ true) × (n ≡ i)
+pos_by true n i e = (refl, cc)
+pos_by false n i e = cc
+
+none_by : (b : Bool) (n : ℕ) → cond b (Some n) None ≡ None → b ≡ false
+none_by true n e = cc
+none_by false n e = refl
+
+pub had_some : (have : List Have) (t i : ℕ) (x : Have) → position (is_had t) have ≡ Some i → x ≡ slice_index_or have i x → x.at ≡ have_at have t
+had_some have t i x e read =
+    let r = pos_by (ltb (position_or_len (is_had t) have) (length have)) (position_or_len (is_had t) have) i e in
+    let lt : i < length have = (let p = r.0 in let q = r.1 in grind (arith, nat_tests)) in
+    let found : find (is_had t) have ≡ Some (slice_index_or have i x) = find_at (is_had t) have ∙ ap (slice_get have) r.1 ∙ slice_get-get_or have i x lt in
+    sym (ap place_or_first (found ∙ ap Some (sym read)))
+
+pub had_none : (have : List Have) (t : ℕ) → position (is_had t) have ≡ None → 0 ≡ have_at have t
+had_none have t e =
+    let r = none_by (ltb (position_or_len (is_had t) have) (length have)) (position_or_len (is_had t) have) e in
+    let le : length have ≤ position_or_len (is_had t) have = (let p = r in grind (arith, nat_tests)) in
+    sym (ap place_or_first (find_at (is_had t) have ∙ slice_get_past have (position_or_len (is_had t) have) le))
 
 -- what a table sweeps where it has no lane with a tail
 pub none_swept : (k : ℕ) (ss new : List (Slot LaneState)) (o : Option ℕ) (r : Option (ℕ × LaneState)) → SweepsLane k ss o r new → r ≡ None → (o ≡ None) × (new ≡ ss)

@@ -1,13 +1,10 @@
 -- A step that adds to no file keeps what holds of a catalogue.
-use Rattle.std.proofs.Common.{◌≡◌, ◌≢◌, ℕ, zero, suc, ◌+◌, ◌<◌, ◌≤◌, Bool, true, false, cond, List, [], ◌∷◌, ◌++◌, length, map, take, drop, replicate, Option, Some, None, IsTrue, refl, sym, ◌∙◌, ap, subst, arith, length-append}
+use Rattle.std.proofs.Common.{◌≡◌, ℕ, suc, ◌<◌, ◌≤◌, Bool, true, false, cond, List, [], ◌∷◌, ◌++◌, length, map, take, drop, replicate, Option, sym, ◌∙◌, ap, subst, arith, length-append}
 use Rattle.std.specs.List.{AllByRecursion, find}
 use Rattle.std.proofs.lemmas.List.{append-nil, append_assoc}
 use Rattle.std.proofs.lemmas.List.Sums.{fold-append}
 use Rattle.hq_value.specs.declared.entry.Entry.{Entry}
-use Rattle.hq_value.specs.declared.entry.EntryKind.{EntryKind}
 use Rattle.hq_value.specs.declared.entry.FileId.{FileId}
-use Rattle.hq_value.specs.Tables.{Definition}
-use Rattle.hq_log.specs.declared.place.Place.{Place}
 use Rattle.hq_log.specs.Pools.{pool, places_after}
 use Rattle.hq_log.specs.Marks.{marks, marks_after}
 use Rattle.hq_log.specs.Legal.{IsLawful, IsLegal}
@@ -23,7 +20,7 @@ use Rattle.hq_catalog.specs.declared.kept.Change.{Change}
 use Rattle.hq_catalog.specs.declared.kept.Grown.{Grown}
 use Rattle.hq_catalog.specs.Files.{is_among, last_change}
 use Rattle.hq_catalog.specs.State.{TableState, CatState, table_in, places_in, seal_of, change_of}
-use Rattle.hq_catalog.specs.History.{history, deposit_at, is_change_at, growth_of}
+use Rattle.hq_catalog.specs.History.{history, deposit_at, is_change_at}
 use Rattle.hq_catalog.specs.Stands.{HasSeal, IsOwnGrowth, IsOwnStep, AreOwnSteps, is_restart}
 use Rattle.hq_catalog.specs.Kept.{IsTable, IsPast, IsCatalogue, place_of}
 use Rattle.hq_catalog.proofs.History.{SameDeposits, SameGrowths, history-push, deposits_stay, last_change-push}

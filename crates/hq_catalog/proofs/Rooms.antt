@@ -1,18 +1,15 @@
 -- How much lanes that are out may still add.
-use Rattle.std.proofs.Common.{◌≡◌, ℕ, zero, suc, ◌+◌, ◌*◌, ◌<◌, ◌≤◌, Bool, true, List, [], ◌∷◌, ◌++◌, length, replicate, map, slice_index_or, slice_set, refl, sym, ◌∙◌, ap, subst, arith, length-append}
+use Rattle.std.proofs.Common.{◌≡◌, ℕ, suc, ◌+◌, ◌*◌, ◌<◌, ◌≤◌, Bool, true, List, [], ◌∷◌, length, replicate, slice_set, refl, sym, ◌∙◌, ap, arith}
 use Rattle.std.specs.List.{sum_by}
 use Rattle.std.proofs.lemmas.List.Sums.{sum_by-cons, sum_by-set}
 use Rattle.hq_value.specs.declared.entry.Entry.{Entry}
 use Rattle.hq_log.specs.Pools.{pool}
-use Rattle.hq_log.specs.Marks.{marks}
 use Rattle.hq_lane.specs.Lanes.{LaneState}
-use Rattle.hq_history.specs.declared.noted.Noted.{Noted}
 use Rattle.hq_pool.specs.declared.slot.Slot.{Slot}
 use Rattle.hq_pool.specs.declared.slot.Slot.TheVariants as slot
 use Rattle.hq_catalog.specs.declared.kept.Change.{Change}
 use Rattle.hq_catalog.specs.declared.kept.Grown.{Grown}
 use Rattle.hq_catalog.specs.State.{TableState, CatState, table_in, unmade, no_slots, places_in}
-use Rattle.hq_catalog.specs.History.{history}
 use Rattle.hq_catalog.specs.Kept.{IsCatalogue, slot_at, owes, owed_by, owed}
 use Rattle.hq_catalog.proofs.Moves.{with_parts, with_slot}
 

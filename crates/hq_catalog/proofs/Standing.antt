@@ -1,12 +1,12 @@
 -- What holds of every catalogue.
-use Rattle.std.proofs.Common.{◌≡◌, ℕ, ◌<◌, ◌≤◌, Bool, List, length, slice_index_or, refl, sym, ◌∙◌, ap, subst, arith}
-use Rattle.hq_lane.specs.Lanes.{LaneState, id_of}
+use Rattle.std.proofs.Common.{ℕ, Bool}
+use Rattle.hq_lane.specs.Lanes.{LaneState}
 use Rattle.hq_pool.specs.declared.slot.Slot.{Slot}
 use Rattle.hq_pool.specs.declared.slot.Slot.TheVariants as slot
-use Rattle.hq_catalog.specs.State.{TableState, CatState, table_in}
+use Rattle.hq_catalog.specs.State.{CatState, table_in}
 use Rattle.hq_catalog.specs.History.{history}
 use Rattle.hq_catalog.specs.Stands.{Stands, IsHome}
-use Rattle.hq_catalog.specs.Kept.{IsCatalogue, IsAtHome, IsOwn, IsOwnClean, slot_at}
+use Rattle.hq_catalog.specs.Kept.{IsCatalogue, IsAtHome, slot_at}
 use Rattle.hq_catalog.proofs.History.{history-entries}
 use Rattle.hq_catalog.proofs.Lends.{fresh_own}
 use Rattle.hq_catalog.proofs.Moves.{given, given_clean}

@@ -1,19 +1,14 @@
 -- The first lane with a tail, and entries that change nothing else.
-use Rattle.std.proofs.Common.{◌≡◌, ◌≢◌, ◌⊎◌, ℕ, zero, suc, ◌+◌, ◌<◌, ◌≤◌, eqb, Bool, true, false, cond, List, [], ◌∷◌, ◌++◌, length, map, Option, Some, None, slice_index_or, slice_set, slice_get, position, refl, sym, ◌∙◌, ap, subst, arith, inl, inr}
+use Rattle.std.proofs.Common.{◌≡◌, ℕ, ◌<◌, Bool, false, List, [], ◌∷◌, ◌++◌, length, slice_set, position, refl, sym, ◌∙◌, ap, subst, inl, inr}
 use Rattle.std.specs.List.{list_any}
 use Rattle.std.proofs.lemmas.List.{get_or_past}
-use Rattle.hq_value.specs.declared.entry.Entry.{Entry}
 use Rattle.hq_value.specs.declared.entry.EntryKind.{EntryKind}
 use Rattle.hq_value.specs.declared.entry.EntryKind.TheVariants as entry
-use Rattle.hq_log.specs.declared.place.Place.{Place}
 use Rattle.hq_log.specs.Places.{is_dirty}
-use Rattle.hq_log.specs.Pools.{pool, places_after}
-use Rattle.hq_log.specs.Legal.{HasNoDirty, IsFirstDirty, IsLawful}
+use Rattle.hq_log.specs.Legal.{HasNoDirty, IsFirstDirty}
 use Rattle.hq_lane.specs.Lanes.{LaneState}
-use Rattle.hq_history.specs.declared.noted.Noted.{Noted}
 use Rattle.hq_history.specs.declared.noted.Deposit.TheVariants.{Nothing}
 use Rattle.hq_history.specs.History.{entries_of}
-use Rattle.hq_pool.specs.declared.slot.Slot.{Slot}
 use Rattle.hq_pool.specs.declared.slot.Slot.TheVariants as slot
 use Rattle.hq_pool.specs.Slots as slots
 use Rattle.hq_snap.proofs.Elements.{below_or}

@@ -1,8 +1,7 @@
 -- What a session may ask, by the history of the catalogue. `files` and `seals` say whether these tell their bytes.
 --     MayAsk files seals k history nodes ask     session k may ask this of a catalogue of so many nodes
-use Rattle.std.specs.Prelude.{◌≡◌, ◌≢◌, ◌⊎◌, ℕ, ◌<◌, ◌≤◌, ◌&&◌, Bool, true, false, List, [], length, map, IsTrue, nat_eq, slice_index_or}
+use Rattle.std.specs.Prelude.{◌≡◌, ◌≢◌, ◌⊎◌, ℕ, ◌<◌, ◌≤◌, ◌&&◌, Bool, false, List, [], length, map, IsTrue, nat_eq, slice_index_or}
 use Rattle.std.specs.List.{All, list_any}
-use Rattle.hq_value.specs.declared.entry.Entry.{Entry}
 use Rattle.hq_value.specs.Tables.{are_distinct}
 use Rattle.hq_log.specs.declared.place.Place.TheVariants.{Out}
 use Rattle.hq_log.specs.Places.{is_out_to, is_swept_by}

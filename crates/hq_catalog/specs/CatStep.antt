@@ -1,7 +1,7 @@
 -- One answer of a catalogue, by its history before and after.
 --     noted k m kind deposit             an entry of session k's statement m, with what it leaves
 --     CatStep told nodes k m history ask history' answer    the answer to an ask, and what it leaves
-use Rattle.std.specs.Prelude.{◌≡◌, ℕ, ◌≤◌, Bool, true, false, List, [], ◌∷◌, ◌++◌, Option, Some, None, length}
+use Rattle.std.specs.Prelude.{◌≡◌, ℕ, Bool, true, false, List, [], ◌∷◌, ◌++◌, Some, None, length}
 use Rattle.hq_value.specs.declared.entry.EntryKind.{EntryKind}
 use Rattle.hq_value.specs.declared.entry.EntryKind.TheVariants as entry
 use Rattle.hq_value.specs.declared.table.Column.{Column}

@@ -5,7 +5,7 @@
 --                                      rows go to bucket b by them
 --     is_named name def                the table has this name
 --     table_named name tables          the number of the table of this name, if there is one
-use Rattle.std.specs.Prelude.{◌≡◌, ℕ, zero, suc, ◌≤◌, Bool, List, [], ◌∷◌, Option, length, take, slice_index_or, position, if◌then◌else◌}
+use Rattle.std.specs.Prelude.{◌≡◌, ℕ, suc, ◌≤◌, Bool, List, [], ◌∷◌, Option, length, take, slice_index_or, position, if◌then◌else◌}
 use Rattle.std.specs.List.{All, list_any}
 use Rattle.hq_value.specs.declared.value.Value.{Value}
 use Rattle.hq_value.specs.declared.entry.FileId.{FileId}

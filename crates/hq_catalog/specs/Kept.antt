@@ -3,7 +3,7 @@
 --     IsCatalogue told c           log, lanes, seals and deposits belong together
 --     owed tables                  how many entries the lanes that are out may still add to the log
 --     IsBooks told b               the same of the books, and there is room for what is owed
-use Rattle.std.specs.Prelude.{◌≡◌, ℕ, ◌+◌, ◌*◌, ◌<◌, ◌≤◌, Bool, false, List, [], ◌∷◌, ◌++◌, position, slice_get, slice_set, Option, Some, None, IsTrue, length, map, replicate, slice_index_or, sum_by, vec_len, vec_capacity, if◌then◌else◌}
+use Rattle.std.specs.Prelude.{◌≡◌, ℕ, ◌+◌, ◌*◌, ◌<◌, ◌≤◌, Bool, false, List, [], position, slice_get, slice_set, Option, Some, None, IsTrue, length, map, replicate, slice_index_or, sum_by, vec_len, vec_capacity, if◌then◌else◌}
 use Rattle.std.specs.List.{AllByRecursion, list_any}
 use Rattle.hq_value.specs.declared.entry.Entry.{Entry}
 use Rattle.hq_value.specs.declared.entry.EntryKind.{EntryKind}
@@ -17,7 +17,6 @@ use Rattle.hq_store.specs.FileStep.{SealState}
 use Rattle.hq_lane.specs.Lanes.{LaneState, id_of, file_of, AreClean, HaveNoSeal, are_clean}
 use Rattle.hq_lane.specs.BucketFiles.{base_bytes}
 use Rattle.hq_history.specs.declared.noted.Noted.{Noted}
-use Rattle.hq_history.specs.History.{entries_of}
 use Rattle.hq_history.specs.Deposits.{tables_left, IsHistory}
 use Rattle.hq_pool.specs.declared.lent.Lent.{Lent}
 use Rattle.hq_pool.specs.declared.lent.Lent.TheVariants as lent

@@ -1,9 +1,13 @@
 pub mod Asks
 pub mod CatStep
+pub mod Causes
+pub mod Copies
+pub mod Commits
 pub mod Files
 pub mod History
 pub mod Kept
 pub mod Lanes
 pub mod Looks
+pub mod Plans
 pub mod Stands
 pub mod State

@@ -2,7 +2,6 @@
 --     Stands told c        its log is legal, and lanes, marks, definitions and seals are what its history leaves
 use Rattle.std.specs.Prelude.{◌≡◌, ℕ, ◌<◌, ◌≤◌, Bool, true, false, List, [], ◌∷◌, ◌++◌, Option, Some, None, IsSome, IsTrue, length, map, slice_index_or}
 use Rattle.std.specs.List.{AllByRecursion}
-use Rattle.hq_value.specs.declared.entry.Entry.{Entry}
 use Rattle.hq_value.specs.declared.entry.EntryKind.{EntryKind}
 use Rattle.hq_value.specs.declared.entry.EntryKind.TheVariants as entry
 use Rattle.hq_value.specs.declared.entry.FileId.{FileId}
@@ -11,7 +10,7 @@ use Rattle.hq_log.specs.Pools.{pool}
 use Rattle.hq_log.specs.Marks.{marks}
 use Rattle.hq_log.specs.Legal.{IsAt, IsLegal}
 use Rattle.hq_store.specs.FileStep.{SealState}
-use Rattle.hq_lane.specs.Lanes.{LaneState, id_of, AreClean, HaveNoSeal}
+use Rattle.hq_lane.specs.Lanes.{LaneState, id_of}
 use Rattle.hq_history.specs.declared.noted.Noted.{Noted}
 use Rattle.hq_history.specs.declared.noted.Growth.{Growth}
 use Rattle.hq_history.specs.History.{entries_of}

@@ -1,9 +1,12 @@
 //! What a catalogue keeps.
-ghost use Rattle.std.specs.Prelude.{◌≡◌, ◌+◌, ◌<◌, ◌≤◌, ◌&&◌, ◌++◌, ◌∷◌, [], length, vec_len, vec_capacity, IfOk, OnOk};
+ghost use Rattle.std.specs.Prelude.{◌≡◌, ◌≢◌, List, ◌+◌, ◌<◌, ◌≤◌, ◌&&◌, ◌++◌, ◌∷◌, [], length, vec_len, vec_capacity, IfOk, OnOk};
 ghost use Rattle.hq_history.specs.declared.noted.Deposit.TheVariants.{Nothing};
 ghost use Rattle.hq_pool.specs.Lends.{entry_of};
 ghost use Rattle.hq_catalog.specs.Asks.{MayAdopt, MayBack, MayLend};
-ghost use Rattle.hq_catalog.specs.CatStep.{AdoptStep, BackStep, LendStep, MarkStep, SweepAnyStep, noted};
+ghost use Rattle.hq_catalog.specs.CatStep.{AdoptStep, BackStep, LendStep, LookStep, MarkStep, SweepAnyStep, Notes, noted};
+ghost use Rattle.hq_snap.specs.declared.scope.Scope.{Scope as OneScope};
+ghost use Rattle.hq_snap.specs.declared.scope.Have.{Have as OneHave};
+ghost use Rattle.hq_catalog.specs.Looks.{AreSeen};
 ghost use Rattle.hq_catalog.specs.Kept.{HasRoom, IsBooks, IsStill, SweptFirst, answer_of, cat_of, told_by};
 
 use crate::ask::Answer;
@@ -11,6 +14,7 @@ use crate::kept::{Change, Grown};
 use crate::table::Table;
 use hq_lane::Lane;
 use hq_pool::Lent;
+use hq_snap::TableSnap;
 use hq_store::{SealCopy, StoredFile};
 use hq_value::{Entry, EntryKind, Marks, Name, NoMemory};
 use indexmap::IndexSet;
@@ -90,6 +94,27 @@ fn answer_for<F: StoredFile, Z: SealCopy>(
 }
 
 impl<F: StoredFile, Z: SealCopy> Books<F, Z> {
+    /// Answers with the tables that a look sees.
+    pub(crate) fn look(
+        &mut self,
+        session: u32,
+        statement: u32,
+        tables: Vec<TableSnap<Z>>,
+    ) -> Answer<F, Z>
+        requires books { IsBooks (F.tells && Z.tells) self.old }
+        requires room { HasRoom self.old }
+        ensures kept { IsBooks (F.tells && Z.tells) self.new }
+        ensures nodes { length self.new.marks ≡ length self.old.marks }
+        ensures noted { Notes session statement EntryKind.Look Nothing (told_by (F.tells && Z.tells) self.old) (told_by (F.tells && Z.tells) self.new) }
+        ensures step { (scope : OneScope) (have : List OneHave) → AreSeen (F.tells && Z.tells) (told_by (F.tells && Z.tells) self.old) scope have tables.items →
+            LookStep (F.tells && Z.tells) (length self.old.marks) session statement (told_by (F.tells && Z.tells) self.old) (told_by (F.tells && Z.tells) self.new) scope have result }
+    {
+        let at = self.place();
+        let marks = self.marks.copy();
+        self.note(session, statement, EntryKind::Look);
+        Answer::Seen { at, marks, tables }
+    }
+
     /// Makes room for an entry, a change, and all that lanes that are out may add.
     pub(crate) fn make_room(&mut self) -> Result<(), NoMemory>
         requires { IsBooks (F.tells && Z.tells) self.old }
@@ -100,6 +125,13 @@ impl<F: StoredFile, Z: SealCopy> Books<F, Z> {
         ensures room { OnOk result (HasRoom self.new) }
     {
         reserve(&mut self.log, &mut self.changes, &mut self.grown)
+    }
+
+    /// How long the log is.
+    fn place(&self) -> u64
+        ensures { result ≡ length self.now.log.items }
+    {
+        self.log.len() as u64
     }
 
     /// Adds an entry that changes nothing else.
@@ -121,14 +153,13 @@ impl<F: StoredFile, Z: SealCopy> Books<F, Z> {
     /// Marks a node.
     pub(crate) fn mark(&mut self, session: u32, statement: u32, node: u8, up: bool) -> Answer<F, Z>
         requires books { IsBooks (F.tells && Z.tells) self.old }
+        requires room { HasRoom self.old }
         requires within { node < length self.old.marks }
         ensures kept { IsBooks (F.tells && Z.tells) self.new }
         ensures nodes { length self.new.marks ≡ length self.old.marks }
+        ensures never { result ≢ Answer.NoMemory }
         ensures step { MarkStep (F.tells && Z.tells) (length self.old.marks) session statement (told_by (F.tells && Z.tells) self.old) (told_by (F.tells && Z.tells) self.new) node up result }
     {
-        if self.make_room().is_err() {
-            return Answer::NoMemory;
-        }
         self.marks.set(node, up);
         self.log.push_reserved(Entry {
             session,
@@ -141,14 +172,13 @@ impl<F: StoredFile, Z: SealCopy> Books<F, Z> {
     /// Lends a lane of a table.
     pub(crate) fn lend(&mut self, session: u32, statement: u32, table: u32) -> Answer<F, Z>
         requires books { IsBooks (F.tells && Z.tells) self.old }
+        requires room { HasRoom self.old }
         requires may { MayLend session (told_by (F.tells && Z.tells) self.old) table }
         ensures kept { IsBooks (F.tells && Z.tells) self.new }
         ensures nodes { length self.new.marks ≡ length self.old.marks }
+        ensures never { result ≢ Answer.NoMemory }
         ensures step { LendStep (F.tells && Z.tells) (length self.old.marks) session statement (told_by (F.tells && Z.tells) self.old) (told_by (F.tells && Z.tells) self.new) table result }
     {
-        if self.make_room().is_err() {
-            return Answer::NoMemory;
-        }
         let alloc = *self.tables.allocator();
         let lent = self.tables[table as usize].lend(session);
         let kind = kind_of(table, &lent);
@@ -207,14 +237,13 @@ impl<F: StoredFile, Z: SealCopy> Books<F, Z> {
 
     /// Lends the first lane with a tail, to be swept.
     pub(crate) fn sweep_any(&mut self, session: u32, statement: u32) -> Answer<F, Z>
-        requires { IsBooks (F.tells && Z.tells) self.old }
+        requires books { IsBooks (F.tells && Z.tells) self.old }
+        requires room { HasRoom self.old }
         ensures kept { IsBooks (F.tells && Z.tells) self.new }
         ensures nodes { length self.new.marks ≡ length self.old.marks }
+        ensures never { result ≢ Answer.NoMemory }
         ensures step { SweepAnyStep (F.tells && Z.tells) (length self.old.marks) session statement (told_by (F.tells && Z.tells) self.old) (told_by (F.tells && Z.tells) self.new) result }
     {
-        if self.make_room().is_err() {
-            return Answer::NoMemory;
-        }
         match sweep_first(&mut self.tables, session) {
             Some(lane) => {
                 let table = lane.table();

@@ -1,15 +1,15 @@
 //! The catalogue.
 ghost use Rattle.std.specs.Prelude.{◌≡◌, ◌<◌, ◌≤◌, ◌&&◌, [], true, length, replicate, IfOk};
-ghost use Rattle.hq_catalog.specs.Asks.{MayAdopt, MayBack, MayLend};
+ghost use Rattle.hq_catalog.specs.Asks.{MayAsk};
 ghost use Rattle.hq_catalog.specs.History.{history};
-ghost use Rattle.hq_catalog.specs.CatStep.{AdoptStep, AlterStep, BackStep, CreateStep, LendStep, MarkStep, SweepAnyStep};
+ghost use Rattle.hq_catalog.specs.CatStep.{CatStep};
+ghost use Rattle.hq_catalog.specs.Causes.{AreAllOut, AreEnough, ComesExactly, HaveNoTail, IsOneMore, IsThere, MayLackMemory};
 ghost use Rattle.hq_catalog.specs.Stands.{Stands};
 
-use crate::ask::Answer;
+use crate::ask::{Answer, Ask};
 use crate::books::Books;
-use hq_lane::Lane;
 use hq_store::{SealCopy, StoredFile};
-use hq_value::{Column, Entry, Marks, Name, NoMemory, TableDef};
+use hq_value::{Entry, Marks, NoMemory};
 use indexmap::IndexSet;
 use std::alloc::Global;
 use std::marker::Model;
@@ -18,7 +18,7 @@ use std::marker::Model;
 /// nodes, and the log of all that was answered.
 #[derive(Drop)]
 pub struct Catalogue<F: StoredFile, Z: SealCopy> {
-    books: Books<F, Z>,
+    pub(crate) books: Books<F, Z>,
 }
 
 impl<F: StoredFile, Z: SealCopy> Model for Catalogue<F, Z> {
@@ -72,69 +72,31 @@ impl<F: StoredFile, Z: SealCopy> Catalogue<F, Z> {
         let _ = &self.books;
     }
 
-    /// Marks a node.
-    pub fn mark(&mut self, session: u32, statement: u32, node: u8, up: bool) -> Answer<F, Z>
-        requires { node < length self.old.marks }
+    /// Answers what session `session` asks by its statement `statement`: one step, and one entry of the log.
+    ///
+    /// `NoMemory` changes nothing, and comes only to the asks that may want memory. `AllOut` comes exactly where all
+    /// lanes of the table are out, `Nothing` exactly where no lane has a tail, `Exists` exactly where a table has the
+    /// name, and `TooManyTables` exactly where none has it and there are 64, each unless memory is wanting.
+    pub fn answer(&mut self, session: u32, statement: u32, ask: Ask<F, Z>) -> Answer<F, Z>
+        requires { MayAsk F.tells Z.tells session ask (history (F.tells && Z.tells) self.old) (length self.old.marks) }
         ensures nodes { length self.new.marks ≡ length self.old.marks }
-        ensures step { MarkStep (F.tells && Z.tells) (length self.old.marks) session statement (history (F.tells && Z.tells) self.old) (history (F.tells && Z.tells) self.new) node up result }
+        ensures step { CatStep (F.tells && Z.tells) (length self.old.marks) session statement (history (F.tells && Z.tells) self.old) ask (history (F.tells && Z.tells) self.new) result }
+        ensures one { IsOneMore session statement (history (F.tells && Z.tells) self.old) (history (F.tells && Z.tells) self.new) result }
+        ensures no_memory { result ≡ Answer.NoMemory → MayLackMemory ask }
+        ensures all_out { ComesExactly result (Answer.AllOut 64) (AreAllOut (history (F.tells && Z.tells) self.old) ask) }
+        ensures nothing { ComesExactly result Answer.Nothing (HaveNoTail (history (F.tells && Z.tells) self.old) ask) }
+        ensures exists { ComesExactly result Answer.Exists (IsThere (history (F.tells && Z.tells) self.old) ask) }
+        ensures too_many { ComesExactly result (Answer.TooManyTables 64) (AreEnough (history (F.tells && Z.tells) self.old) ask) }
     {
-        self.books.mark(session, statement, node, up)
+        self.step(session, statement, ask)
     }
 
-    /// Lends a lane of a table.
-    pub fn lend(&mut self, session: u32, statement: u32, table: u32) -> Answer<F, Z>
-        requires { MayLend session (history (F.tells && Z.tells) self.old) table }
+    // The same, without the causes.
+    fn step(&mut self, session: u32, statement: u32, ask: Ask<F, Z>) -> Answer<F, Z>
+        requires { MayAsk F.tells Z.tells session ask (history (F.tells && Z.tells) self.old) (length self.old.marks) }
         ensures nodes { length self.new.marks ≡ length self.old.marks }
-        ensures step { LendStep (F.tells && Z.tells) (length self.old.marks) session statement (history (F.tells && Z.tells) self.old) (history (F.tells && Z.tells) self.new) table result }
+        ensures step { CatStep (F.tells && Z.tells) (length self.old.marks) session statement (history (F.tells && Z.tells) self.old) ask (history (F.tells && Z.tells) self.new) result }
     {
-        self.books.lend(session, statement, table)
-    }
-
-    /// A lane that the session has swept is its to write.
-    pub fn adopt(&mut self, session: u32, statement: u32, lane: Lane<F, Z>) -> Answer<F, Z>
-        requires { MayAdopt (F.tells && Z.tells) session (history (F.tells && Z.tells) self.old) lane }
-        ensures nodes { length self.new.marks ≡ length self.old.marks }
-        ensures step { AdoptStep (F.tells && Z.tells) (length self.old.marks) session statement (history (F.tells && Z.tells) self.old) (history (F.tells && Z.tells) self.new) lane result }
-    {
-        self.books.adopt(session, statement, lane)
-    }
-
-    /// A lane that the session has comes home, clean exactly where it has just its committed bytes.
-    pub fn back(&mut self, session: u32, statement: u32, lane: Lane<F, Z>) -> Answer<F, Z>
-        requires { MayBack (F.tells && Z.tells) session (history (F.tells && Z.tells) self.old) lane }
-        ensures nodes { length self.new.marks ≡ length self.old.marks }
-        ensures step { BackStep (F.tells && Z.tells) (length self.old.marks) session statement (history (F.tells && Z.tells) self.old) (history (F.tells && Z.tells) self.new) lane result }
-    {
-        self.books.back(session, statement, lane)
-    }
-
-    /// Makes a table.
-    pub fn create(&mut self, session: u32, statement: u32, def: TableDef) -> Answer<F, Z>
-        ensures nodes { length self.new.marks ≡ length self.old.marks }
-        ensures step { CreateStep (F.tells && Z.tells) (length self.old.marks) session statement (history (F.tells && Z.tells) self.old) (history (F.tells && Z.tells) self.new) def result }
-    {
-        self.books.create(session, statement, def)
-    }
-
-    /// Adds a column to the table of this name.
-    pub fn alter(
-        &mut self,
-        session: u32,
-        statement: u32,
-        table: Name,
-        column: Column,
-    ) -> Answer<F, Z>
-        ensures nodes { length self.new.marks ≡ length self.old.marks }
-        ensures step { AlterStep (F.tells && Z.tells) (length self.old.marks) session statement (history (F.tells && Z.tells) self.old) (history (F.tells && Z.tells) self.new) table column result }
-    {
-        self.books.alter(session, statement, table, column)
-    }
-
-    /// Lends the lowest lane with a tail, of the lowest table that has one, to be swept.
-    pub fn sweep_any(&mut self, session: u32, statement: u32) -> Answer<F, Z>
-        ensures nodes { length self.new.marks ≡ length self.old.marks }
-        ensures step { SweepAnyStep (F.tells && Z.tells) (length self.old.marks) session statement (history (F.tells && Z.tells) self.old) (history (F.tells && Z.tells) self.new) result }
-    {
-        self.books.sweep_any(session, statement)
+        self.books.answer(session, statement, ask)
     }
 }

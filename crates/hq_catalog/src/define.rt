@@ -1,73 +1,45 @@
 //! Tables made and altered.
-ghost use Rattle.std.specs.Prelude.{◌≡◌, ◌<◌, ◌&&◌, length, Some};
-ghost use Rattle.hq_history.specs.Deposits.{MayMake, tables_left};
+ghost use Rattle.std.specs.Prelude.{◌≡◌, ◌<◌, ◌&&◌, ◌++◌, ◌∷◌, [], ℕ, List, length, Some, if◌then◌else◌};
+ghost use Rattle.std.specs.List.{list_any};
+ghost use Rattle.indexmap.specs.IndexSet.{spare};
+ghost use Rattle.hq_value.specs.Tables.{same_names};
+ghost use Rattle.hq_history.specs.declared.noted.Deposit.TheVariants.{Made, Added};
+ghost use Rattle.hq_history.specs.Deposits.{tables_left};
 ghost use Rattle.hq_catalog.specs.Files.{table_named};
-ghost use Rattle.hq_catalog.specs.CatStep.{AlterStep, CreateStep};
-ghost use Rattle.hq_catalog.specs.Kept.{HasRoom, IsBooks, told_by};
+ghost use Rattle.hq_catalog.specs.CatStep.{AlterStep, CreateStep, Notes};
+ghost use Rattle.hq_catalog.specs.Kept.{IsBooks, told_by};
+ghost use Rattle.hq_catalog.specs.Plans.{FitsAdd, FitsMake};
 
 use crate::ask::Answer;
 use crate::books::Books;
 use crate::kept::Change;
 use crate::table::Table;
 use hq_store::{SealCopy, StoredFile};
-use hq_value::{Column, ColumnFault, Entry, EntryKind, Name, NoMemory, TableDef};
-
-/// How many tables there may be.
-const TABLES: usize = 64;
+use hq_value::{Column, Entry, EntryKind, Name, TableDef};
+use indexmap::IndexSet;
 
 impl<F: StoredFile, Z: SealCopy> Books<F, Z> {
-    /// Makes a table.
-    pub(crate) fn create(&mut self, session: u32, statement: u32, def: TableDef) -> Answer<F, Z>
-        requires { IsBooks (F.tells && Z.tells) self.old }
-        ensures kept { IsBooks (F.tells && Z.tells) self.new }
-        ensures nodes { length self.new.marks ≡ length self.old.marks }
-        ensures step { CreateStep (F.tells && Z.tells) (length self.old.marks) session statement (told_by (F.tells && Z.tells) self.old) (told_by (F.tells && Z.tells) self.new) def result }
-    {
-        if self.make_room().is_err() {
-            return Answer::NoMemory;
-        }
-        if self.names.contains(def.name()) {
-            self.note(session, statement, EntryKind::Create);
-            return Answer::Exists;
-        }
-        if self.tables.len() >= TABLES {
-            self.note(session, statement, EntryKind::Create);
-            return Answer::TooManyTables { made: 64 };
-        }
-        def.keeps_the_rules();
-        self.make(session, statement, def)
-    }
-
-    // Makes a table of a new name, where there is room for its entry.
-    fn make(&mut self, session: u32, statement: u32, def: TableDef) -> Answer<F, Z>
+    /// Makes a table of a new name. `name` and `def` are its name and definition once more, to be kept.
+    pub(crate) fn make(
+        &mut self,
+        session: u32,
+        statement: u32,
+        name: Name,
+        def: TableDef,
+        table: Table<F, Z>,
+    ) -> Answer<F, Z>
         requires books { IsBooks (F.tells && Z.tells) self.old }
-        requires room { HasRoom self.old }
-        requires may { MayMake (tables_left (told_by (F.tells && Z.tells) self.old)) def }
+        requires fits { FitsMake (F.tells && Z.tells) self.old name def table }
         ensures kept { IsBooks (F.tells && Z.tells) self.new }
         ensures nodes { length self.new.marks ≡ length self.old.marks }
+        ensures noted { Notes session statement EntryKind.Create (Made def) (told_by (F.tells && Z.tells) self.old) (told_by (F.tells && Z.tells) self.new) }
         ensures step { CreateStep (F.tells && Z.tells) (length self.old.marks) session statement (told_by (F.tells && Z.tells) self.old) (told_by (F.tells && Z.tells) self.new) def result }
     {
-        let alloc = *self.tables.allocator();
-        let Ok(name) = def.name().copy(alloc) else {
-            return Answer::NoMemory;
-        };
-        let Ok(made) = def.copy() else {
-            return Answer::NoMemory;
-        };
         let number = self.tables.len() as u32;
-        let Ok(table) = Table::new(alloc, number, def) else {
-            return Answer::NoMemory;
-        };
-        if self.tables.reserve(1).is_err() {
-            return Answer::NoMemory;
-        }
-        if self.names.insert(name).is_err() {
-            return Answer::NoMemory;
-        }
         let place = self.log.len() as u64;
+        push_name(&mut self.names, name);
         self.tables.push_reserved(table);
-        self.changes
-            .push_reserved(Change::Made { place, def: made });
+        self.changes.push_reserved(Change::Made { place, def });
         self.log.push_reserved(Entry {
             session,
             statement,
@@ -76,79 +48,45 @@ impl<F: StoredFile, Z: SealCopy> Books<F, Z> {
         Answer::Made { table: number }
     }
 
-    /// Adds a column to a table.
-    pub(crate) fn alter(
+    /// Gives a table the definition that has a column more. `column` is the column once more, to be kept.
+    pub(crate) fn add_column(
         &mut self,
         session: u32,
         statement: u32,
-        table: Name,
-        column: Column,
-    ) -> Answer<F, Z>
-        requires { IsBooks (F.tells && Z.tells) self.old }
-        ensures kept { IsBooks (F.tells && Z.tells) self.new }
-        ensures nodes { length self.new.marks ≡ length self.old.marks }
-        ensures step { AlterStep (F.tells && Z.tells) (length self.old.marks) session statement (told_by (F.tells && Z.tells) self.old) (told_by (F.tells && Z.tells) self.new) table column result }
-    {
-        if self.make_room().is_err() {
-            return Answer::NoMemory;
-        }
-        match self.names.get_index_of(&table) {
-            Some(t) => self.add_column(session, statement, &table, t, column),
-            None => {
-                self.note(session, statement, EntryKind::Alter);
-                Answer::NoTable
-            }
-        }
-    }
-
-    // Adds a column to table t, where there is room for the entry.
-    fn add_column(
-        &mut self,
-        session: u32,
-        statement: u32,
-        name: &Name,
-        t: usize,
+        table: u32,
+        def: TableDef,
         column: Column,
     ) -> Answer<F, Z>
         requires books { IsBooks (F.tells && Z.tells) self.old }
-        requires room { HasRoom self.old }
-        requires named { table_named name.now (tables_left (told_by (F.tells && Z.tells) self.old)) ≡ Some t }
-        requires made { t < length self.old.tables.items }
+        requires fits { FitsAdd self.old table def column }
         ensures kept { IsBooks (F.tells && Z.tells) self.new }
         ensures nodes { length self.new.marks ≡ length self.old.marks }
-        ensures step { AlterStep (F.tells && Z.tells) (length self.old.marks) session statement (told_by (F.tells && Z.tells) self.old) (told_by (F.tells && Z.tells) self.new) name.now column result }
+        ensures noted { Notes session statement EntryKind.Alter (Added table column) (told_by (F.tells && Z.tells) self.old) (told_by (F.tells && Z.tells) self.new) }
+        ensures step { (name : List ℕ) → table_named name (tables_left (told_by (F.tells && Z.tells) self.old)) ≡ Some table → AlterStep (F.tells && Z.tells) (length self.old.marks) session statement (told_by (F.tells && Z.tells) self.old) (told_by (F.tells && Z.tells) self.new) name column result }
     {
-        let alloc = *self.tables.allocator();
-        let Ok(kept) = column.copy(alloc) else {
-            return Answer::NoMemory;
-        };
-        let columns = self.tables[t].def().columns().as_slice().len() as u8;
-        match self.tables[t].def().with_column(alloc, column) {
-            Ok(def) => {
-                let place = self.log.len() as u64;
-                let table = t as u32;
-                self.tables[t].define(def);
-                self.changes.push_reserved(Change::Added {
-                    place,
-                    table,
-                    column: kept,
-                });
-                self.log.push_reserved(Entry {
-                    session,
-                    statement,
-                    kind: EntryKind::Alter,
-                });
-                Answer::Altered { table }
-            }
-            Err(ColumnFault::NoMemory) => Answer::NoMemory,
-            Err(ColumnFault::TooManyColumns) => {
-                self.note(session, statement, EntryKind::Alter);
-                Answer::TooManyColumns { columns }
-            }
-            Err(ColumnFault::ColumnThere) => {
-                self.note(session, statement, EntryKind::Alter);
-                Answer::ColumnThere
-            }
-        }
+        let place = self.log.len() as u64;
+        self.tables[table as usize].define(def);
+        self.changes.push_reserved(Change::Added {
+            place,
+            table,
+            column,
+        });
+        self.log.push_reserved(Entry {
+            session,
+            statement,
+            kind: EntryKind::Alter,
+        });
+        Answer::Altered { table }
+    }
+}
+
+// Adds a name for which there is room.
+fn push_name(names: &mut IndexSet<Name>, name: Name)
+    requires { 0 < spare names.old }
+    ensures { names.new.keys ≡ (if list_any (same_names name) names.old.keys then names.old.keys else names.old.keys ++ name ∷ []) }
+{
+    match names.insert(name) {
+        Ok(_) => {}
+        Err(_refused) => unreachable!(),
     }
 }

@@ -6,12 +6,21 @@
 mod ask;
 mod books;
 mod catalogue;
+mod commits;
+mod copies;
 mod define;
+mod desk;
 mod kept;
+mod kind;
 mod laws;
+mod plan;
+mod prepare;
+mod ready;
+mod settle;
 mod table;
 
 pub use ask::{Answer, Ask};
 pub use catalogue::Catalogue;
 pub use kept::{Change, Grown};
-pub use laws::others_change_nothing_that_may_be_asked;
+pub use laws::{a_step_has_its_causes, others_change_nothing_that_may_be_asked};
+pub use ready::Ready;

@@ -1,12 +1,16 @@
 //! One table.
-ghost use Rattle.std.specs.Prelude.{◌≡◌, ℕ, ◌<◌, true, length, replicate, slice_get, slice_set, Some, None, IfOk};
-ghost use Rattle.hq_lane.specs.Lanes.{are_clean};
-ghost use Rattle.hq_log.specs.Places.{is_out, passes_at};
-ghost use Rattle.hq_catalog.specs.Kept.{home_slot};
+ghost use Rattle.std.specs.Prelude.{◌≡◌, ℕ, ◌+◌, ◌^◌, ◌<◌, ◌≤◌, ◌&&◌, ◌++◌, true, length, replicate, slice_get, slice_set, position, Some, None, IfOk, vec_len, vec_capacity};
+ghost use Rattle.hq_lane.specs.Lanes.{are_clean, AreSealed};
+ghost use Rattle.hq_log.specs.Places.{is_dirty, is_out, next_place, passes_at};
+ghost use Rattle.hq_snap.specs.Snaps.{AreSince};
+ghost use Rattle.hq_catalog.specs.Commits.{grown_in_lane, Begins, IsTaken, IsWell};
+ghost use Rattle.hq_catalog.specs.Kept.{home_slot, IsTable};
 
+use crate::commits::commit_files;
+use crate::kept::Grown;
 use hq_lane::Lane;
-use hq_pool::{Lent, Pool, Slot};
-use hq_snap::{Changed, LaneSeals};
+use hq_pool::{Lent, Next, Pool, Slot};
+use hq_snap::{Changed, LaneSeals, TableSnap, copy_since};
 use hq_store::{SealCopy, StoredFile};
 use hq_value::{NoMemory, TableDef};
 use std::alloc::Global;
@@ -54,6 +58,12 @@ impl<F: StoredFile, Z: SealCopy> Table<F, Z> {
         })
     }
 
+    pub(crate) fn number(&self) -> u32
+        ensures { result ≡ self.now.number }
+    {
+        self.number
+    }
+
     pub(crate) fn def(&self) -> &TableDef
         ensures { result.now ≡ self.now.def }
     {
@@ -65,6 +75,52 @@ impl<F: StoredFile, Z: SealCopy> Table<F, Z> {
         ensures { self.new ≡ record self.old { def = def } }
     {
         self.def = def;
+    }
+
+    /// Its definition, and the seals of the files that changed since.
+    pub(crate) fn since(&self, alloc: Global, at: u64) -> Result<TableSnap<Z>, NoMemory>
+        requires { length self.now.seals ≡ 64 }
+        ensures table { IfOk result (λ snap. snap.table ≡ self.now.number) }
+        ensures def { IfOk result (λ snap. snap.def ≡ self.now.def) }
+        ensures seals { IfOk result (λ snap. AreSince self.now.changed at self.now.seals snap.lanes) }
+    {
+        copy_since(
+            alloc,
+            self.number,
+            &self.def,
+            &self.seals,
+            &self.changed,
+            at,
+        )
+    }
+
+    /// The lane that is lent next.
+    pub(crate) fn next(&self) -> Next
+        ensures { result ≡ next_place (places self.now.slots) }
+    {
+        self.pool.next()
+    }
+
+    /// The lowest lane with a tail.
+    pub(crate) fn lowest_dirty(&self) -> Option<u8>
+        requires { length self.now.slots ≡ 64 }
+        ensures { result ≡ position is_dirty (places self.now.slots) }
+    {
+        for n in 0..64u8 {
+            if self.has_tail(n) {
+                return Some(n);
+            }
+        }
+        None
+    }
+
+    fn has_tail(&self, n: u8) -> bool
+        ensures { result ≡ passes_at is_dirty (places self.now.slots) n }
+    {
+        match self.pool.place(n) {
+            Some(place) => place.is_dirty(),
+            None => false,
+        }
     }
 
     /// Lends session `k` the lane that is next.
@@ -105,6 +161,32 @@ impl<F: StoredFile, Z: SealCopy> Table<F, Z> {
             self.pool.back_dirty(n, lane);
             false
         }
+    }
+
+    /// A lane that is out and sealed comes home clean, committed by the entry at this place of the log.
+    pub(crate) fn commit(&mut self, place: u64, lane: Lane<F, Z>, grown: &mut Vec<Grown>)
+        requires behind { place + 1 < 2 ^ 64 }
+        requires table { IsTable (F.tells && Z.tells) lane.table self.old }
+        requires out { passes_at is_out (places self.old.slots) lane.number ≡ true }
+        requires begins { Begins (F.tells && Z.tells) self.old.seals lane }
+        requires sealed { AreSealed F.tells Z.tells lane.files }
+        requires room { vec_len grown.old + 16 ≤ vec_capacity grown.old }
+        ensures well { IsWell (F.tells && Z.tells) lane }
+        ensures taken { IsTaken (F.tells && Z.tells) place lane self.old self.new }
+        ensures grown { grown.new.items ≡ grown.old.items ++ grown_in_lane place lane }
+        ensures grown_len { vec_len grown.new ≤ vec_len grown.old + 16 }
+        ensures grown_room { vec_capacity grown.new ≡ vec_capacity grown.old }
+    {
+        let n = lane.number();
+        let mut lane = lane;
+        commit_files(
+            place,
+            &mut lane,
+            &mut self.seals[n as usize],
+            &mut self.changed,
+            grown,
+        );
+        self.pool.back_clean(n, lane);
     }
 }
 

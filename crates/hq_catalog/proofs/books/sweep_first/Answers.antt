@@ -1,5 +1,5 @@
 -- One table more has no lane with a tail.
-use Rattle.std.proofs.Common.{◌≡◌, ◌+◌, ◌<◌, List, length, ap, arith}
+use Rattle.std.proofs.Common.{◌<◌, List, length, ap, arith}
 use Rattle.hq_catalog.specs.State.{TableState}
 use Rattle.hq_catalog.proofs.Parts.{swept_all}
 use Rattle.hq_catalog.proofs.books.sweep_first.Goals as goal

@@ -1,6 +1,5 @@
 -- The lane that was swept is out to its session, and the log has one entry more.
-use Rattle.std.proofs.Common.{◌≡◌, ◌&&◌, ◌+◌, ◌<◌, ◌≤◌, ◌++◌, ◌∷◌, [], Bool, List, Some, length, map, slice_get, slice_set, refl, subst, sym, ◌∙◌, ap, arith}
-use Rattle.hq_value.specs.declared.entry.Entry.{Entry}
+use Rattle.std.proofs.Common.{◌≡◌, ◌&&◌, ◌++◌, ◌∷◌, [], Bool, List, map, slice_get, slice_set, refl, subst, sym, ◌∙◌, ap, arith}
 use Rattle.hq_value.specs.declared.entry.EntryKind.TheVariants as entry
 use Rattle.hq_pool.specs.declared.slot.Slot.TheVariants as slot
 use Rattle.hq_pool.specs.Slots as slots

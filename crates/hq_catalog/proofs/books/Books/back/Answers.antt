@@ -1,11 +1,10 @@
 -- The lane is at home, and the log has one entry more.
-use Rattle.std.proofs.Common.{◌≡◌, ◌&&◌, ◌+◌, ◌<◌, ◌≤◌, ◌++◌, ◌∷◌, [], Bool, List, Some, length, map, slice_get, slice_set, refl, subst, sym, ◌∙◌, ap, arith}
-use Rattle.hq_value.specs.declared.entry.Entry.{Entry}
+use Rattle.std.proofs.Common.{◌≡◌, ◌&&◌, ◌++◌, ◌∷◌, [], Bool, List, map, slice_set, refl, subst, sym, ◌∙◌, ap, arith}
 use Rattle.hq_value.specs.declared.entry.EntryKind.TheVariants as entry
 use Rattle.hq_log.specs.Places.{is_out, passes_at}
 use Rattle.hq_lane.specs.Lanes.{are_clean}
 use Rattle.hq_pool.specs.Slots as slots
-use Rattle.hq_catalog.specs.State.{TableState, CatState, table_in, places_in}
+use Rattle.hq_catalog.specs.State.{TableState, CatState, table_in}
 use Rattle.hq_catalog.specs.History.{history}
 use Rattle.hq_catalog.specs.Kept.{IsCatalogue, cat_of, home_slot, owed}
 use Rattle.hq_catalog.proofs.Backs.{comes_back, backed}

@@ -1,7 +1,5 @@
 -- The table lends what is next, and the log has one entry more.
-use Rattle.std.proofs.Common.{◌≡◌, ◌&&◌, ◌+◌, ◌<◌, ◌≤◌, ◌++◌, ◌∷◌, [], Bool, false, List, length, map, slice_set, refl, subst, sym, ◌∙◌, ap, arith}
-use Rattle.std.specs.Result.{is_err}
-use Rattle.hq_value.specs.declared.entry.Entry.{Entry}
+use Rattle.std.proofs.Common.{◌≡◌, ◌&&◌, ◌<◌, ◌++◌, ◌∷◌, [], Bool, List, length, map, slice_set, refl, subst, sym, ◌∙◌, ap, arith}
 use Rattle.hq_log.specs.Legal.{HasNoLane}
 use Rattle.hq_history.specs.declared.noted.Noted.{Noted}
 use Rattle.hq_history.specs.declared.noted.Deposit.TheVariants.{Nothing}
@@ -15,21 +13,22 @@ use Rattle.hq_catalog.specs.Kept.{IsCatalogue, HasRoom, answer_of, cat_of}
 use Rattle.hq_catalog.proofs.History.{history-entries}
 use Rattle.hq_catalog.proofs.Lends.{lend}
 use Rattle.hq_catalog.proofs.Moves.{with_parts, entry_by}
-use Rattle.hq_catalog.proofs.Parts.{made_in, names_moved, on_ok, read_table}
+use Rattle.hq_catalog.proofs.Parts.{made_in, names_moved, read_table}
+use Rattle.hq_catalog.proofs.Plans.{never_lent}
 use Rattle.hq_catalog.proofs.Rooms.{owed_few}
 use Rattle.hq_catalog.proofs.books.Books.lend.Goals as goal
 
 pub returns-clause-kept : goal.returns-clause-kept
 returns-clause-kept g c =
     let told : Bool = g.F.StoredFile.tells && g.Z.SealCopy.tells in
-    let b = c.make_room.new.self in
-    let kept = c.make_room.ensures.kept in
+    let b = c.args.self.now in
+    let kept = c.requires.books in
     let t = c.args.table in
     let x = c.index_mut.result.now in
     let y = c.lend-lent.new.self in
     let a = c.lend-lent.result in
-    let room : HasRoom b = on_ok (HasRoom b) c.make_room.result (let i : is_err c.make_room.result ≡ false = (let x = c.is_err.ensures.value in let y = c.if-is_err.false in cc) in i) c.make_room.ensures.room in
-    let may : MayLend c.args.session (history told (cat_of b)) t = subst (λ (d : CatState). MayLend c.args.session (history told d) t) (sym c.make_room.ensures.same) c.requires.may in
+    let room : HasRoom b = c.requires.room in
+    let may : MayLend c.args.session (history told (cat_of b)) t = c.requires.may in
     let made : t < length b.tables.items = made_in told (cat_of b) t kept.cat may.made in
     let none : HasNoLane b.log.items c.args.session t = subst (λ es. HasNoLane es c.args.session t) (history-entries told (cat_of b)) may.no_lane in
     let read = read_table b.tables.items t t x c.index_mut.ensures.value refl made in
@@ -54,14 +53,14 @@ returns-clause-kept g c =
 pub returns-clause-step : goal.returns-clause-step
 returns-clause-step g c =
     let told : Bool = g.F.StoredFile.tells && g.Z.SealCopy.tells in
-    let b = c.make_room.new.self in
-    let kept = c.make_room.ensures.kept in
+    let b = c.args.self.now in
+    let kept = c.requires.books in
     let t = c.args.table in
     let x = c.index_mut.result.now in
     let y = c.lend-lent.new.self in
     let a = c.lend-lent.result in
     let nodes = length c.args.self.now.marks in
-    let may : MayLend c.args.session (history told (cat_of b)) t = subst (λ (d : CatState). MayLend c.args.session (history told d) t) (sym c.make_room.ensures.same) c.requires.may in
+    let may : MayLend c.args.session (history told (cat_of b)) t = c.requires.may in
     let made : t < length b.tables.items = made_in told (cat_of b) t kept.cat may.made in
     let none : HasNoLane b.log.items c.args.session t = subst (λ es. HasNoLane es c.args.session t) (history-entries told (cat_of b)) may.no_lane in
     let read = read_table b.tables.items t t x c.index_mut.ensures.value refl made in
@@ -79,5 +78,8 @@ returns-clause-step g c =
     let ans : Answer g.row.F.Denot g.row.Z.Denot = answer_of {F = g.row.F.Denot} {Z = g.row.Z.Denot} t a in
     let grew : history told (cat_of b) ++ noted c.args.session c.args.statement (pools.entry_of t a) Nothing ∷ [] ≡ history told new = sym (ap (λ (d : CatState). history told d) cat_is ∙ r.0.1) in
     let one : P (history told (cat_of b)) (history told new) ans = subst (λ (next : List Noted). P (history told (cat_of b)) next ans) grew r.1 in
-    let two : P (history told (cat_of c.args.self.now)) (history told new) ans = subst (λ (d : CatState). P (history told d) (history told new) ans) c.make_room.ensures.same one in
+    let two : P (history told (cat_of c.args.self.now)) (history told new) ans = one in
     subst (λ (r : Answer g.row.F.Denot g.row.Z.Denot). P (history told (cat_of c.args.self.now)) (history told new) r) (sym c.answer_for.ensures) two
+
+pub returns-clause-never : goal.returns-clause-never
+returns-clause-never g c = λ e. never_lent {F = g.row.F.Denot} {Z = g.row.Z.Denot} c.args.table c.lend-lent.result (sym c.answer_for.ensures ∙ e)

@@ -1,5 +1,5 @@
 -- The first catalogue.
-use Rattle.std.proofs.Common.{◌≡◌, ◌&&◌, ◌+◌, ◌*◌, ◌≤◌, Bool, true, List, [], length, map, replicate, vec_len, vec_capacity, subst, sym, ◌∙◌, ap, arith}
+use Rattle.std.proofs.Common.{◌≡◌, ◌&&◌, Bool, true, List, [], length, map, subst, sym, ◌∙◌, ap, arith}
 use Rattle.std.proofs.lemmas.List.{length-replicate}
 use Rattle.hq_value.specs.declared.entry.Entry.{Entry}
 use Rattle.hq_catalog.specs.declared.kept.Grown.{Grown}
