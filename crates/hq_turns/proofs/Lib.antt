@@ -1,0 +1,10 @@
+pub mod Answering
+pub mod Changing
+pub mod Counting
+pub mod Done
+pub mod Ending
+pub mod Following
+pub mod Hands
+pub mod Hearing
+pub mod WorkedStatements
+pub mod Working
