@@ -18,6 +18,7 @@ use Rattle.hq_exec.specs.Feeding.{Fed}
 use Rattle.hq_exec.specs.Files.{HeldState, given_files, buckets_files}
 use Rattle.hq_exec.specs.Lines.{LineState, HasRun, HasGiven, Takes, CanTake}
 use Rattle.hq_exec.specs.Outs.{OutState}
+use Rattle.hq_exec.proofs.Adding.{adds-none, adds-both}
 use Rattle.hq_exec.proofs.Rows.{joined-parts}
 
 -- no rows
@@ -25,7 +26,7 @@ pub takes-none : (kinds : List Kind) (line : LineState) → Takes kinds [] line 
 takes-none kinds line = λ out ss pushed put run. record {
   added = [];
   run = subst (λ (l : List Row). HasRun kinds out ss l (put ++ []) line.failed line.pipes) (sym (append-nil pushed)) (subst (λ (l : List Row). HasRun kinds out ss pushed l line.failed line.pipes) (sym (append-nil put)) run);
-  given = ap (λ (l : List Row). record line.out { rows = l }) (sym (append-nil line.out.rows));
+  given = adds-none line.out;
 }
 
 -- rows behind others
@@ -37,7 +38,7 @@ takes-more kinds first next a b c f g = λ out ss pushed put run.
       added = one.added ++ two.added;
       run = subst (λ (l : List Row). HasRun kinds out ss l (put ++ (one.added ++ two.added)) c.failed c.pipes) (append_assoc pushed first next)
           (subst (λ (l : List Row). HasRun kinds out ss ((pushed ++ first) ++ next) l c.failed c.pipes) (append_assoc put one.added two.added) two.run);
-      given = two.given ∙ ap (λ (o : OutState). record o { rows = o.rows ++ two.added }) one.given ∙ ap (λ (l : List Row). record a.out { rows = l }) (append_assoc a.out.rows one.added two.added);
+      given = adds-both one.added two.added a.out b.out c.out one.given two.given;
     }
 
 module _ {S : Type 0} (faults given : S → ℕ) (sound : S → Type 0) (told : Type 0) (kinds : List Kind) where

@@ -1,3 +1,4 @@
+pub mod Adding
 pub mod Running
 pub mod Rows
 pub mod Feeds
@@ -9,7 +10,6 @@ pub mod Whole
 pub mod Runs
 pub mod Bad
 pub mod Examples
-pub mod Stays
 pub mod Roots
 pub mod Views
 pub mod Parted

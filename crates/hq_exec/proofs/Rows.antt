@@ -1,7 +1,9 @@
 -- Facts of each row of two lists.
-use Rattle.std.proofs.Common.{◌≡◌, ℕ, zero, suc, ◌<◌, List, [], ◌∷◌, ◌++◌, length, get_or, take, drop, Ok, Err, Result, refl, sym, ap, subst, arith}
-use Rattle.std.specs.Prelude.{IfOk}
+use Rattle.std.proofs.Common.{◌≡◌, ℕ, zero, suc, ◌<◌, ◌≤◌, List, [], ◌∷◌, ◌++◌, length, get_or, take, drop, Ok, Err, Result, refl, sym, ap, subst, arith}
+use Rattle.std.specs.Prelude.{IfOk, All}
 use Rattle.std.specs.List.{AllByRecursion, remove}
+use Rattle.hq_value.specs.Causes.{Rose}
+use Rattle.std.proofs.lemmas.List.Elements.{All-head, All-tail}
 
 pub both-parts : {A : Type 0} (P : A → Type 0) (xs ys : List A) → AllByRecursion P (xs ++ ys) → AllByRecursion P xs × AllByRecursion P ys
 both-parts P [] ys h = (tt, h)
@@ -20,3 +22,12 @@ first-and-others (y ∷ ys) x low is = ap (λ z. z ∷ ys) (sym is)
 pub ok-so : {T E : Type 0} (r : Result T E) (P Q : T → Type 0) → ((x : T) → P x → Q x) → IfOk r P → IfOk r Q
 ok-so (Ok x) P Q f h = f x h
 ok-so (Err e) P Q f h = tt
+
+-- what holds of the member at each place holds of each member
+pub each-of : {A : Type 0} (P : A → Type 0) (xs : List A) → All P xs → AllByRecursion P xs
+each-of P [] all = tt
+each-of P (x ∷ xs) all = (All-head P x xs all, each-of P xs (All-tail P x xs all))
+
+-- a count that rose later rose
+pub rose-later : (a b c : ℕ) → a ≤ b → Rose b c → Rose a c
+rose-later a b c low rose = omega arith

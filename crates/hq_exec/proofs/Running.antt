@@ -10,13 +10,14 @@ use Rattle.hq_ops.specs.declared.pipe.Pipe.{Pipe}
 use Rattle.hq_ops.specs.declared.end.OpEnd.{OpEnd}
 use Rattle.hq_ops.specs.Ends.{IsNumericAt}
 use Rattle.hq_ops.specs.Pipes.{gives, fails}
-use Rattle.hq_ops.specs.Taking.{HasTaken, HasTakenAfter, GivesRest, FailsFor}
-use Rattle.hq_exec.proofs.Stays.{IsFirstOf, stays-first}
+use Rattle.hq_ops.specs.Taking.{HasTaken, HasTakenAfter, GivesRest, FailsFor, IsFirstOf}
+use Rattle.hq_ops.proofs.Pipes.{stays-first}
 use Rattle.hq_exec.specs.declared.end.Halt.{Halt}
 use Rattle.hq_exec.specs.declared.end.Halt.TheVariants as halt
 use Rattle.hq_exec.specs.Given.{end_as}
 use Rattle.hq_exec.specs.Lines.{HasFlowed, HasPassed, Carries, LineState, RunsBy, HasRun, IsReady, CanTake, HasGiven, Takes, Finishes, CanPush, CanPass, HasGivenMore, Pushed, WasPassed, HasEnded, DrainedBy, Drained}
-use Rattle.hq_exec.specs.Outs.{OutState, Suits, Accepts}
+use Rattle.hq_exec.specs.Outs.{OutState, Suits, Accepts, Adds}
+use Rattle.hq_exec.proofs.Adding.{adds-none, adds-both}
 use Rattle.hq_exec.specs.Stages.{Stage, flowed, faulted, behind}
 use Rattle.hq_exec.proofs.Rows.{both-parts, joined-parts}
 
@@ -66,6 +67,13 @@ passed-fault (suc n) [] (p ∷ ps) d pushed rows put more low h fault = absurd h
 passed-fault (suc n) (s ∷ ss) (p ∷ ps) d pushed rows put more low h fault =
     let first : IsFirstOf h.0 (gives s.op s.build (pushed ++ more)) = gives-more s.op s.build pushed h.0 more p h.1 in
     or-right _ _ (ap (λ l. faulted ss l) first.1 ∙ passed-fault n ss ps d h.0 rows put first.0 (omega (arith, low)) h.2 fault)
+
+-- as many pipes as stages
+pub flow-length : (ss : List Stage) (ps : List Pipe) (pushed put : List Row) → HasFlowed ss ps pushed put → length ps ≡ length ss
+flow-length [] [] pushed put h = refl
+flow-length [] (p ∷ ps) pushed put h = absurd h
+flow-length (s ∷ ss) [] pushed put h = absurd h
+flow-length (s ∷ ss) (p ∷ ps) pushed put h = ap suc (flow-length ss ps h.0 put h.2)
 
 -- what came out fits the kinds that rows become
 pub flow-fits : (ss : List Stage) (ps : List Pipe) (kinds out : List Kind) (pushed put : List Row) → Carries kinds ss out → AreFit kinds pushed → HasFlowed ss ps pushed put → AreFit out put
@@ -122,11 +130,11 @@ was-step (Err halt.Numeric) n m ps new d q rows found before after next low push
 was-step (Err halt.NoMemory) n m ps new d q rows found before after next low push w = tt
 
 -- the rows are put
-pub was-put : (n : ℕ) (ps : List Pipe) (rows : List Row) (before after : OutState) → n ≡ length ps → after ≡ record before { rows = before.rows ++ rows } → WasPassed (Ok tt) n rows ps ps before after
+pub was-put : (n : ℕ) (ps : List Pipe) (rows : List Row) (before after : OutState) → n ≡ length ps → Adds rows before after → WasPassed (Ok tt) n rows ps ps before after
 was-put n ps rows before after e given = λ stages pushed put h. record { added = rows; flowed = passed-all stages ps n pushed rows put e h; given = given }
 
 -- pipe n ended without rows
-pub was-stopped : (e : Halt) (n : ℕ) (ps new : List Pipe) (d : Pipe) (rows : List Row) (before after : OutState) → n < length ps → after ≡ before
+pub was-stopped : (e : Halt) (n : ℕ) (ps new : List Pipe) (d : Pipe) (rows : List Row) (before after : OutState) → n < length ps → Adds [] before after
     → ((op : Op) (build before given more : List Row) → HasTaken op build before given (get_or ps n d) → FailsFor (end_as (Err e)) (fails op (before ++ rows ++ more)))
     → WasPassed (Err e) n rows ps new before after
 was-stopped halt.Numeric n ps new d rows before after low same fault = (same, λ stages pushed put h more. passed-fault n stages ps d pushed rows put more low h fault)
@@ -180,19 +188,26 @@ module _ (p : Pipe) (ps : List Pipe) (found : List Row) (rest : (op : Op) (build
         accepts = subst (λ (w : Option (List Kind)). Accepts w mid.out) (sym same) mid.accepts;
       }
 
+  -- as many as before
+  pub same-many : (qs : List Pipe) (before after : OutState) → CanPush (p ∷ ps) [] before.kinds → Pushed (Ok tt) found ps qs before after → length qs ≡ length ps
+  same-many qs before after can push =
+      let mid : CanPush ps found before.kinds = can-finish before.kinds can in
+      let more : HasGivenMore mid.stages qs (mid.pushed ++ found) mid.put before after = push mid.stages mid.pushed mid.put mid.flowed in
+      flow-length mid.stages qs (mid.pushed ++ found) (mid.put ++ more.added) more.flowed ∙ sym (flow-length mid.stages ps mid.pushed mid.put mid.flowed)
+
   module _ (fine : (op : Op) (build pushed given : List Row) → HasTaken op build pushed given p → fails op pushed ≡ false) where
     -- the others were pushed to and finished
     pub drained-step : (r : Result Unit Halt) (qs : List Pipe) (before between after : OutState) → Pushed (Ok tt) found ps qs before between → Drained r qs between after → Drained r (p ∷ ps) before after
     drained-step r qs before between after push drained = λ kinds out ss pushed put c fit h. by kinds out ss pushed put c fit h
       where
         end-by : (r : Result Unit Halt) (out : List Kind) (s : Stage) (ss : List Stage) (pushed mid put added : List Row) → mid ≡ gives s.op s.build pushed → fails s.op pushed ≡ false
-            → between ≡ record before { rows = before.rows ++ added } → DrainedBy r out ss mid (put ++ added) between after → DrainedBy r out (s ∷ ss) pushed put before after
+            → Adds added before between → DrainedBy r out ss mid (put ++ added) between after → DrainedBy r out (s ∷ ss) pushed put before after
         end-by (Ok x) out s ss pushed mid put added is none given d = record {
           added = added ++ d.added;
           all = sym (append_assoc put added d.added) ∙ d.all ∙ ap (λ l. flowed ss l) is;
           fine = or-none _ _ none (ap (λ l. faulted ss l) (sym is) ∙ d.fine);
           fit = subst (λ (l : List Row). AreFit out l) (append_assoc put added d.added) d.fit;
-          given = d.given ∙ ap (λ (o : OutState). record o { rows = o.rows ++ d.added }) given ∙ ap (λ (l : List Row). record before { rows = l }) (append_assoc before.rows added d.added);
+          given = adds-both added d.added before between after given d.given;
         }
         end-by (Err halt.Numeric) out s ss pushed mid put added is none given d = or-right _ _ (ap (λ l. faulted ss l) (sym is) ∙ d)
         end-by (Err halt.NoMemory) out s ss pushed mid put added is none given d = tt
@@ -236,7 +251,7 @@ drained-none [] before e = by
       all = append-nil put ∙ h;
       fine = refl;
       fit = subst (λ (k : List Kind). AreFit k (put ++ [])) c (subst (λ (l : List Row). AreFit kinds l) (sym h ∙ sym (append-nil put)) fit);
-      given = ap (λ (l : List Row). record before { rows = l }) (sym (append-nil before.rows));
+      given = adds-none before;
     }
 drained-none (p ∷ ps) before e = absurd (omega (arith, e))
 
@@ -264,7 +279,7 @@ takes-failed kinds rows line failed more = λ out ss pushed put run. record {
     fit = joined-parts (Fits kinds) pushed rows run.fit more;
     runs = subst (λ (b : Bool). RunsBy b ss line.pipes (pushed ++ rows) (put ++ [])) (sym failed) (still ss pushed (subst (λ (b : Bool). RunsBy b ss line.pipes pushed put) failed run.runs));
   };
-  given = ap (λ (l : List Row). record line.out { rows = l }) (sym (append-nil line.out.rows));
+  given = adds-none line.out;
 }
   where
     still : (ss : List Stage) (pushed : List Row) → ((more : List Row) → faulted ss (pushed ++ more) ≡ true) → (more : List Row) → faulted ss (pushed ++ rows ++ more) ≡ true
@@ -294,7 +309,7 @@ takes-fault kinds rows f ps qs before after fine more push = λ out ss pushed pu
         fit = joined-parts (Fits kinds) pushed rows run.fit more;
         runs = push.1 ss pushed put (subst (λ (b : Bool). RunsBy b ss ps pushed put) fine run.runs);
       };
-      given = push.0 ∙ ap (λ (l : List Row). record before { rows = l }) (sym (append-nil before.rows));
+      given = push.0;
     }
 
 -- a line that has taken rows can take more

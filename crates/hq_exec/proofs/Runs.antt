@@ -12,6 +12,7 @@ use Rattle.hq_exec.specs.Feeding.{Fed}
 use Rattle.hq_exec.specs.Files.{HeldState}
 use Rattle.hq_exec.specs.Lines.{LineState, HasFlowed, HasRun, IsReady, CanTake, HasGiven, HasEnded, Finishes}
 use Rattle.hq_exec.specs.Outs.{OutState, Accepts}
+use Rattle.hq_exec.proofs.Adding.{adds-both}
 use Rattle.hq_exec.specs.Ran.{HasRead, HasPut, Ran}
 use Rattle.hq_exec.specs.Stages.{Stage, flowed, faulted, stages_of}
 use Rattle.hq_exec.proofs.Carrying.{carries}
@@ -70,7 +71,7 @@ module _ {S : Type 0} (faulting given : S → ℕ) (sound : S → Type 0) (told 
       puts true e none = absurd cc
       puts false e none = record {
         added = gave.added ++ e.added;
-        given = e.given ∙ ap (λ (x : OutState). record x { rows = x.rows ++ e.added }) gave.given ∙ ap (λ (l : List Row). record before { rows = l }) (append_assoc before.rows gave.added e.added);
+        given = adds-both gave.added e.added before line.out after gave.given e.given;
         fit = λ ks is. let same : kinds ≡ ks = cc in subst (λ (k : List Kind). AreFit k (gave.added ++ e.added)) same e.fit;
         are = λ t. e.all ∙ ap (flowed (stages_of o builds)) (sym (fed.rows_are t ∙ append-nil fed.rows));
       }

@@ -20,7 +20,7 @@ use Rattle.hq_ops.specs.Taking.{HasTaken}
 use Rattle.hq_exec.specs.declared.line.Line.{Line}
 use Rattle.hq_exec.specs.declared.end.Halt.{Halt}
 use Rattle.hq_exec.specs.declared.end.Halt.TheVariants as halt
-use Rattle.hq_exec.specs.Outs.{OutState, Accepts}
+use Rattle.hq_exec.specs.Outs.{OutState, Accepts, Adds}
 use Rattle.hq_exec.specs.Stages.{Stage, flowed, faulted}
 
 -- these rows were pushed to the first pipe, and those came out of the last one
@@ -41,7 +41,7 @@ Carries kinds [] out = kinds ≡ out
 Carries kinds (s ∷ ss) out = (between : List Kind) × ((rows : List Row) → AreFit kinds rows → AreFit between (gives s.op s.build rows)) × Carries between ss out
 
 -- whether an evaluation has faulted, the pipes, and what takes the rows
-pub record LineState : Type 0 where
+pub record LineState : Type 1 where
   pub failed : Bool
   pub pipes : List Pipe
   pub out : OutState
@@ -73,7 +73,7 @@ CanTake kinds line = line.failed ≡ false → IsReady kinds line
 pub record HasGiven (kinds out : List Kind) (stages : List Stage) (pushed put : List Row) (before after : LineState) : Type 0 where
   pub added : List Row
   pub run : HasRun kinds out stages pushed (put ++ added) after.failed after.pipes
-  pub given : after.out ≡ record before.out { rows = before.out.rows ++ added }
+  pub given : Adds added before.out after.out
 
 -- these rows were pushed
 abbrev pub Takes : List Kind → List Row → LineState → LineState → Type 0
@@ -85,7 +85,7 @@ pub record HasEnded (out : List Kind) (stages : List Stage) (pushed put : List R
   pub all : put ++ added ≡ flowed stages pushed
   pub fine : faulted stages pushed ≡ false
   pub fit : AreFit out (put ++ added)
-  pub given : after ≡ record before { rows = before.rows ++ added }
+  pub given : Adds added before after
 
 abbrev pub Finishes : Bool → List Kind → List Stage → List Row → List Row → OutState → OutState → Type 0
 Finishes true out stages pushed put before after = faulted stages pushed ≡ true
@@ -120,18 +120,18 @@ pub record CanPass (n : ℕ) (pipes : List Pipe) (rows : List Row) (wanted : Opt
 pub record HasGivenMore (stages : List Stage) (pipes : List Pipe) (pushed put : List Row) (before after : OutState) : Type 0 where
   pub added : List Row
   pub flowed : HasFlowed stages pipes pushed (put ++ added)
-  pub given : after ≡ record before { rows = before.rows ++ added }
+  pub given : Adds added before after
 
 -- what is left of pipes that were pushed to: more came out, or an evaluation faults
 abbrev pub Pushed : Result Unit Halt → List Row → List Pipe → List Pipe → OutState → OutState → Type 0
 Pushed (Ok x) rows old new before after = (stages : List Stage) (pushed put : List Row) → HasFlowed stages old pushed put → HasGivenMore stages new (pushed ++ rows) put before after
-Pushed (Err halt.Numeric) rows old new before after = (after ≡ before) × ((stages : List Stage) (pushed put : List Row) → HasFlowed stages old pushed put → (more : List Row) → faulted stages (pushed ++ rows ++ more) ≡ true)
+Pushed (Err halt.Numeric) rows old new before after = Adds [] before after × ((stages : List Stage) (pushed put : List Row) → HasFlowed stages old pushed put → (more : List Row) → faulted stages (pushed ++ rows ++ more) ≡ true)
 Pushed (Err halt.NoMemory) rows old new before after = Unit {0}
 
 -- the same where pipe n is pushed to
 abbrev pub WasPassed : Result Unit Halt → ℕ → List Row → List Pipe → List Pipe → OutState → OutState → Type 0
 WasPassed (Ok x) n rows old new before after = (stages : List Stage) (pushed put : List Row) → HasPassed n stages old pushed rows put → HasGivenMore stages new pushed put before after
-WasPassed (Err halt.Numeric) n rows old new before after = (after ≡ before) × ((stages : List Stage) (pushed put : List Row) → HasPassed n stages old pushed rows put → (more : List Row) → faulted stages (pushed ++ more) ≡ true)
+WasPassed (Err halt.Numeric) n rows old new before after = Adds [] before after × ((stages : List Stage) (pushed put : List Row) → HasPassed n stages old pushed rows put → (more : List Row) → faulted stages (pushed ++ more) ≡ true)
 WasPassed (Err halt.NoMemory) n rows old new before after = Unit {0}
 
 -- what finished pipes have given, or that an evaluation faulted

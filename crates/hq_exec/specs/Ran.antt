@@ -15,7 +15,7 @@ use Rattle.hq_fits.specs.Supplied.{AreFit}
 use Rattle.hq_meaning.specs.Rows.{Row}
 use Rattle.hq_exec.specs.Builds.{BuildsFit, builds_read, leaf_kept, leaf_reads, lists_of, AreBuilt}
 use Rattle.hq_exec.specs.Files.{HeldState}
-use Rattle.hq_exec.specs.Outs.{OutState}
+use Rattle.hq_exec.specs.Outs.{OutState, Adds}
 use Rattle.hq_exec.specs.Slices.{slice_rows, slice_fault, slice_reads}
 use Rattle.hq_exec.specs.Stages.{flowed, faulted, stages_of}
 
@@ -28,7 +28,7 @@ pub record HasRead {S : Type 0} (faults given : S → ℕ) (sound : S → Type 0
 -- rows were put that fit the operator's kinds, and where contents are told they are these
 pub record HasPut (told : Type 0) (o : Op) (rows : List Row) (before after : OutState) : Type 0 where
   pub added : List Row
-  pub given : after ≡ record before { rows = before.rows ++ added }
+  pub given : Adds added before after
   pub fit : (kinds : List Kind) → op_kinds o ≡ Some kinds → AreFit kinds added
   pub are : told → added ≡ rows
 

@@ -1,19 +1,20 @@
 //! Where rows go.
-ghost use Rattle.std.specs.Prelude.{◌≡◌, ◌++◌, [], None, OnOk};
-ghost use Rattle.hq_exec.specs.Outs.{OutState, Suits};
+ghost use Rattle.std.specs.Prelude.{◌≡◌, [], None, OnOk, List};
+ghost use Rattle.hq_value.specs.declared.value.Value.{Value as Datum};
+ghost use Rattle.hq_exec.specs.Outs.{OutState, Suits, Adds};
 
 use hq_value::{NoMemory, Row};
 use std::alloc::Global;
 
 /// What takes rows, bit by bit. It may ask that they fit some kinds.
 pub trait RowOut {
-    /// The rows that were put, and the kinds that rows have to fit, if there are such.
+    /// The kinds that rows have to fit, if there are such, and what holds of the rows that were put, in their order.
     ghost state: { Self → OutState };
 
     /// Takes more rows. Without memory it is not said which of them were put.
     fn put(&mut self, rows: Vec<Row>) -> Result<(), NoMemory>
         requires { Suits (state self.old).kinds rows.items }
-        ensures put { OnOk result (state self.new ≡ record (state self.old) { rows = (state self.old).rows ++ rows.items }) }
+        ensures put { OnOk result (Adds rows.items (state self.old) (state self.new)) }
         ensures kinds { (state self.new).kinds ≡ (state self.old).kinds };
 }
 
@@ -26,7 +27,8 @@ pub struct RowList {
 impl RowList {
     /// No rows. It takes no memory.
     pub fn new(alloc: Global) -> RowList
-        ensures { ⟦<RowList as RowOut>⟧.state result ≡ record { kinds = None; rows = [] } }
+        ensures any { (⟦<RowList as RowOut>⟧.state result).kinds ≡ None }
+        ensures none { (⟦<RowList as RowOut>⟧.state result).holds [] }
     {
         RowList {
             rows: Vec::new(alloc),
@@ -35,7 +37,7 @@ impl RowList {
 
     /// The rows that were put.
     pub fn into_rows(self) -> Vec<Row>
-        ensures { result.items ≡ (⟦<RowList as RowOut>⟧.state self).rows }
+        ensures { (rows : List (List Datum)) → (⟦<RowList as RowOut>⟧.state self).holds rows → result.items ≡ rows }
     {
         let RowList { rows } = self;
         rows
@@ -43,9 +45,9 @@ impl RowList {
 }
 
 impl RowOut for RowList {
-    ghost use Rattle.std.specs.Prelude.{None};
+    ghost use Rattle.std.specs.Prelude.{◌≡◌, None};
 
-    ghost state = { λ list. record { kinds = None; rows = list.rows.items } };
+    ghost state = { λ list. record { kinds = None; holds = λ rows. list.rows.items ≡ rows } };
 
     fn put(&mut self, rows: Vec<Row>) -> Result<(), NoMemory> {
         let mut rows = rows;
