@@ -143,7 +143,7 @@ impl Operators {
             })
             .ok()?;
         let start = rt.process_cpu_time().ok()?;
-        let end = sort_rows(alloc, &order, None, rows);
+        let end = sort_rows(&order, None, rows);
         ended(rt, start, end)
     }
 }

@@ -79,7 +79,7 @@ impl Case {
             "partial" => partial_rows(alloc, &places(alloc, rest)?, &self.aggregates, &self.rows),
             "final" => final_rows(alloc, place(rest), &self.aggregates, &self.rows),
             "distinct" => distinct_rows(alloc, copied(alloc, &self.rows)?),
-            "sort" => sort_rows(alloc, &self.order, self.limit, copied(alloc, &self.rows)?),
+            "sort" => sort_rows(&self.order, self.limit, copied(alloc, &self.rows)?),
             _ => return Ok(None),
         };
         Ok(Some(end))

@@ -1,5 +1,5 @@
 -- One more row of what an aggregate reads.
-use Rattle.std.proofs.Common.{ℕ, pos, List, [], ◌∷◌, ◌++◌, map, ◌≡◌, ℤ, Option, Some, None, refl, sym, ◌∙◌, ap}
+use Rattle.std.proofs.Common.{List, [], ◌∷◌, ◌++◌, map, ◌≡◌, ℤ, Option, Some, None, refl, sym, ◌∙◌, ap}
 use Rattle.std.proofs.lemmas.List.{map-append}
 use Rattle.hq_value.specs.declared.value.Value.{Value}
 use Rattle.hq_value.specs.declared.value.Value.TheVariants as value

@@ -1,5 +1,5 @@
 -- One more row in its group, in each tally; and the rows of the groups.
-use Rattle.std.proofs.Common.{zero, suc, length, take, ◌==◌, ◌≡◌, ℕ, ◌+◌, ◌<◌, ◌≤◌, Bool, true, false, cond, not, ◌||◌, ◌&&◌, List, [], ◌∷◌, ◌++◌, map, get_or, slice_set as set, subst, refl, sym, ◌∙◌, ap, arith}
+use Rattle.std.proofs.Common.{suc, length, ◌==◌, ◌≡◌, ℕ, ◌+◌, ◌<◌, Bool, true, false, cond, not, ◌||◌, ◌&&◌, List, [], ◌∷◌, ◌++◌, map, get_or, slice_set as set, subst, refl, sym, ◌∙◌, ap, arith}
 use Rattle.std.specs.Prelude.{flat_map, All}
 use Rattle.std.specs.List.{list_any, position_or_len}
 use Rattle.std.specs.Cmp.Lexicographic.{pointwise}

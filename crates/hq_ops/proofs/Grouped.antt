@@ -1,5 +1,5 @@
 -- Groups by what partial and final aggregates read are the rows of those operators, with equal faults.
-use Rattle.std.proofs.Common.{zero, suc, length, ◌≡◌, ℕ, ◌+◌, Bool, true, false, cond, ◌||◌, List, [], ◌∷◌, ◌++◌, map, take, subst, refl, sym, ◌∙◌, ap, arith}
+use Rattle.std.proofs.Common.{◌≡◌, ℕ, ◌+◌, Bool, false, ◌||◌, List, [], ◌∷◌, ◌++◌, map, take, refl, ◌∙◌, ap}
 use Rattle.std.specs.Prelude.{flat_map}
 use Rattle.std.specs.Borrow.{Bor}
 use Rattle.std.specs.List.{list_any}
@@ -8,19 +8,17 @@ use Rattle.hq_value.specs.declared.value.Value.{Value}
 use Rattle.hq_algebra.specs.declared.expr.Expr.{Expr}
 use Rattle.hq_algebra.specs.declared.aggregate.Aggregate.{Aggregate}
 use Rattle.hq_algebra.specs.declared.aggregate.Aggregate.TheVariants as agg
-use Rattle.hq_algebra.specs.Eval.{column, value_at}
+use Rattle.hq_algebra.specs.Eval.{column}
 use Rattle.hq_meaning.specs.Rows.{Row}
-use Rattle.hq_meaning.specs.Aggregates.{added, over, exact, plus, leaves_64, or_zero, is_out, argument_faults, arguments_fault, one_for, sooner, falling_cmp}
-use Rattle.hq_meaning.specs.Groups.{key_of, keys_found, members}
+use Rattle.hq_meaning.specs.Aggregates.{added, over, plus, leaves_64, or_zero, is_out, argument_faults, sooner, falling_cmp}
+use Rattle.hq_meaning.specs.Groups.{key_of, members}
 use Rattle.hq_meaning.specs.Halves.{halves, whole}
 use Rattle.hq_meaning.specs.Operators as spec
 use Rattle.hq_ops.specs.declared.best.Extreme.TheVariants as extreme
 use Rattle.hq_ops.specs.declared.column.Column.{Column}
 use Rattle.hq_ops.specs.declared.column.Column.TheVariants as reads_of
-use Rattle.hq_ops.specs.declared.groups.GroupBy.{GroupBy}
 use Rattle.hq_ops.specs.declared.groups.GroupBy.TheVariants as by
-use Rattle.hq_ops.specs.Columns.{reads, reads_fault, seeks, alike, comes, given, leaves}
-use Rattle.hq_ops.specs.Grouping.{key_by, width_by}
+use Rattle.hq_ops.specs.Columns.{reads, reads_fault, seeks}
 use Rattle.hq_ops.specs.Gathering.{row_faults, given_over, leaves_over, group_rows, group_leaves, group_keys_by}
 use Rattle.hq_ops.specs.Grouped.{IsPartial, ArePartial, final_column, final_columns}
 

@@ -1,14 +1,9 @@
 -- One more row in its group.
 use Rattle.std.proofs.Common.{zero, length, take, ◌==◌, ◌≡◌, ℕ, suc, ◌+◌, Bool, true, false, cond, not, ◌||◌, List, [], ◌∷◌, ◌++◌, map, filter, get_or, slice_set, subst, refl, sym, ◌∙◌, ap, arith}
-use Rattle.std.specs.Borrow.{Bor}
-use Rattle.std.specs.Global.{Vec}
 use Rattle.std.specs.List.{list_any, position_or_len}
 use Rattle.std.specs.Cmp.Lexicographic.{pointwise}
-use Rattle.std.proofs.lemmas.List.{append-nil, map-append, map-set}
-use Rattle.std.proofs.lemmas.Bool.{eqb-true}
+use Rattle.std.proofs.lemmas.List.{append-nil, map-append}
 use Rattle.std.proofs.lemmas.List.Elements.{filter-append}
-use Rattle.std.proofs.Math.ListN as indexed
-use Rattle.hq_value.specs.declared.value.Value.{Value}
 use Rattle.hq_value.specs.contracts.value.ValuePartialEq.TheImpl as partial
 use Rattle.hq_value.proofs.Equal.{row_ties}
 use Rattle.hq_meaning.specs.Rows.{Row, firsts, same_row}
@@ -16,8 +11,8 @@ use Rattle.hq_meaning.specs.Groups.{key_of, keys_found, members}
 use Rattle.hq_meaning.proofs.Bags.{same_equal, same_self}
 use Rattle.hq_ops.specs.declared.groups.GroupBy.{GroupBy}
 use Rattle.hq_ops.specs.declared.groups.GroupBy.TheVariants as by
-use Rattle.hq_ops.specs.Grouping.{key_by, width_by, the_rows, groups_of, IsGrouping}
-use Rattle.hq_ops.proofs.Firsts.{flip_same, any-firsts, firsts-push, keys-step}
+use Rattle.hq_ops.specs.Grouping.{key_by, width_by}
+use Rattle.hq_ops.proofs.Firsts.{flip_same, any-firsts, firsts-push}
 
 abbrev AllOf : (Row → Type 0) → List Row → Type 0
 AllOf P [] = Unit {0}
@@ -116,24 +111,6 @@ groups-step key xs x olds y gs hs index fresh g d eo ey eg ef ei eh en =
 
     grown : g ≡ get_or (cond (not (list_any (same_row (key x)) (firsts (map key xs)))) (map (λ k. members key k xs) (firsts (map key xs)) ++ members key (key x) xs ∷ []) (map (λ k. members key k xs) (firsts (map key xs)))) (position_or_len (same_row (key x)) (firsts (map key xs))) d ++ x ∷ []
     grown = en ∙ (λ i. get_or (filled i) (found i) d ++ x ∷ [])
-
-abbrev rows_in : Vec (Bor (List Value)) → List Row
-rows_in g = the_rows g.items
-
--- the same over groups of references, where old is the group before and new the one after
-pub grouping-step : (key : Row → Row) (xs : List Row) (x : Bor (List Value)) (olds news : List Row) (y : Row) (gs hs : List (Vec (Bor (List Value)))) (index : ℕ) (fresh : Bool) (old new : Vec (Bor (List Value)))
-    → IsGrouping key xs olds (groups_of gs) → y ≡ key x.now
-    → news ≡ cond (list_any (λ w. pointwise (partial.ghosts).eq y w) olds) olds (olds ++ y ∷ [])
-    → fresh ≡ not (list_any (λ w. pointwise (partial.ghosts).eq y w) olds) → index ≡ position_or_len (λ w. pointwise (partial.ghosts).eq y w) olds
-    → groups_of hs ≡ cond fresh (groups_of gs ++ [] ∷ []) (groups_of gs) → old ≡ get_or hs index old → new.items ≡ old.items ++ x ∷ []
-    → IsGrouping key (xs ++ x.now ∷ []) news (groups_of (slice_set hs index new))
-grouping-step key xs x olds news y gs hs index fresh old new before ey en ef ei eh eo ew = record {
-  firsts_are = keys-step (map key xs) olds news (key x.now) before.firsts_are (λ i. (en ∙ (λ j. cond (list_any (λ w. pointwise (partial.ghosts).eq (ey j) w) olds) olds (olds ++ ey j ∷ []))) i) ∙ sym (ap firsts (map-append key xs (x.now ∷ [])));
-  groups_are =
-      map-set rows_in hs index new
-      ∙ groups-step key xs x.now olds y (groups_of gs) (groups_of hs) index fresh (rows_in new) (rows_in old) before.firsts_are ey before.groups_are ef ei eh
-      (ap the_rows ew ∙ map-append (λ (r : Bor (List Value)). r.now) old.items (x ∷ []) ∙ ap (λ l. l ++ x.now ∷ []) (ap rows_in eo ∙ sym (indexed.get_or-map rows_in hs index old)));
-}
 
 -- Without keys there is one group.
 pub nil-of : (places : List ℕ) → length places ≡ 0 → (row : Row) → key_of places row ≡ []

@@ -1,10 +1,10 @@
+pub mod Chaining
 pub mod Firsts
 pub mod Folds
 pub mod Gathers
 pub mod Grouped
 pub mod Grouping
 pub mod Joining
-pub mod Keys
 pub mod Limits
 pub mod Ordered
 pub mod Pipes

@@ -1,15 +1,15 @@
 -- So many of the first rows stand for all in a sort that gives no more.
-use Rattle.std.proofs.Common.{◌≡◌, ℕ, zero, suc, ◌+◌, Bool, true, false, cond, List, [], ◌∷◌, ◌++◌, take, refl, sym, ◌∙◌, ap, arith, append_assoc}
+use Rattle.std.proofs.Common.{◌≡◌, ℕ, zero, suc, ◌+◌, Bool, true, false, cond, List, [], ◌∷◌, ◌++◌, take, refl, sym, ◌∙◌, ap, arith}
 use Rattle.std.specs.Ordering.{is_gt, is_eq}
 use Rattle.std.specs.Cmp.{IsTotalOrder}
 use Rattle.std.specs.declared.cmp.Ordering.{Ordering}
 use Rattle.std.specs.declared.cmp.Ordering.TheVariants.{Less, Equal, Greater}
 use Rattle.std.proofs.lemmas.Map.Lookups.{CmpEqualImpliesEq}
 use Rattle.std.proofs.lemmas.Cmp.{tied_itself}
-use Rattle.hq_value.specs.Sorting.{with_item, sorted_by, times, SameBagBy}
+use Rattle.hq_value.specs.Sorting.{with_item, sorted_by, times}
 use Rattle.hq_value.proofs.Sorting.{sorted_by-SameBagBy, times-append}
 use Rattle.hq_algebra.specs.declared.op.SortKey.{SortKey}
-use Rattle.hq_meaning.specs.Rows.{Row, order_cmp, ordered}
+use Rattle.hq_meaning.specs.Rows.{Row, ordered}
 use Rattle.hq_ops.proofs.Ordered.{order_total, order_exact}
 
 module _ {K : Type 0} {R : K → K → Ordering} (total : IsTotalOrder R) (exact : CmpEqualImpliesEq R) where

@@ -1,6 +1,6 @@
 -- Rows that an operator takes, and what it gives at the end.
-use Rattle.std.proofs.Common.{◌≡◌, ℕ, Bool, true, false, ◌||◌, List, [], ◌∷◌, ◌++◌, map, filter, subst, refl, sym, ◌∙◌, ap, append_assoc, Ok, Err, Result}
-use Rattle.std.specs.Prelude.{flat_map, IfOk}
+use Rattle.std.proofs.Common.{◌≡◌, ℕ, Bool, true, false, ◌||◌, List, [], ◌++◌, map, subst, refl, sym, ◌∙◌, ap, append_assoc, Ok, Err, Result}
+use Rattle.std.specs.Prelude.{IfOk}
 use Rattle.std.specs.Prelude.{Option}
 use Rattle.std.specs.Global.{Vec}
 use Rattle.std.specs.Borrow.{Bor}
@@ -16,27 +16,25 @@ use Rattle.hq_algebra.specs.declared.op.Op.{Op}
 use Rattle.hq_algebra.specs.declared.op.SortKey.{SortKey}
 use Rattle.hq_algebra.specs.Eval.{is_true_at, value_at, faults_at}
 use Rattle.hq_meaning.specs.Rows.{Row}
-use Rattle.hq_meaning.specs.Groups.{key_of}
-use Rattle.hq_meaning.specs.Operators.{filtered, projected, project_faults, joined, beside, partial, partial_faults, final, final_faults, distinct, sorted}
+use Rattle.hq_meaning.specs.Operators.{filtered, projected, project_faults, joined, beside, sorted}
 use Rattle.hq_ops.specs.declared.column.Column.{Column}
 use Rattle.hq_ops.specs.declared.end.Stop.{Stop}
 use Rattle.hq_ops.specs.declared.end.Stop.TheVariants as stop
 use Rattle.hq_ops.specs.declared.gathered.Gathered.{Gathered}
-use Rattle.hq_ops.specs.declared.groups.Groups.{Groups}
+use Rattle.hq_ops.specs.declared.chains.Chains.{Chains}
 use Rattle.hq_ops.specs.declared.groups.GroupBy.{GroupBy}
 use Rattle.hq_ops.specs.declared.groups.GroupBy.TheVariants as by
 use Rattle.hq_ops.specs.declared.pipe.Pipe.{Pipe}
 use Rattle.hq_ops.specs.declared.work.Work.{Work}
 use Rattle.hq_ops.specs.declared.work.Work.TheVariants as work
-use Rattle.hq_ops.specs.Beginnings.{IsJoinOf, IsPartialOf, IsFinalOf}
+use Rattle.hq_ops.specs.Beginnings.{IsPartialOf, IsFinalOf}
 use Rattle.hq_ops.specs.Ends.{StopsAt, Gives, IsNumericAt, end_of, ended}
 use Rattle.hq_ops.specs.Taking.{HasTakenAfter, GivesRest, FailsFor, EndsAs, IsFirstOf}
 use Rattle.hq_ops.specs.Gathering.{HasGathered, row_faults, group_rows, group_leaves, some_fault}
 use Rattle.hq_ops.specs.Grouped.{ArePartial, final_columns}
-use Rattle.hq_ops.specs.Grouping.{groups_of, IsGrouping}
 use Rattle.hq_ops.specs.Pipes.{gives, fails, is_streamed}
 use Rattle.hq_ops.specs.Sorts.{StandFor}
-use Rattle.hq_ops.specs.Works.{Stands, HasJoined, Holds, TookRows, TookFault, Took}
+use Rattle.hq_ops.specs.Works.{Stands, Holds, TookRows, TookFault, Took}
 use Rattle.hq_ops.proofs.Grouped.{partial-is, partial-faults-are, partial-leaves-never, final-is, final-faults-are, final-reads-never}
 
 or-none : (a b : Bool) → a ≡ false → b ≡ false → (a || b) ≡ false
@@ -82,12 +80,13 @@ project-fault op build pushed given rows items h e = record {
 }
 
 -- Join
-pub took-left : (op : Op) (build pushed given rows found : List Row) (lk rk : Bor (List ℕ)) (right : Groups) → Holds op build pushed given (work.Join lk rk right) → found ≡ joined lk.now rk.now rows build
+pub took-left : (op : Op) (build pushed given rows found : List Row) (lk rk : Bor (List ℕ)) (right : Chains) → Holds op build pushed given (work.Join lk rk right) → found ≡ joined lk.now rk.now rows build
     → TookRows op build pushed given rows found (work.Join lk rk right)
 took-left op build pushed given rows found lk rk right h e = record {
   holds = record {
     stands = h.stands;
-    grouped = h.grouped;
+    keys_are = h.keys_are;
+    rows_are = h.rows_are;
     given_are = (λ i. h.given_are i ++ e i) ∙ sym (flat_map-append (beside lk.now rk.now build) pushed rows);
   };
   streams = λ s. (e ∙ sym (h.stands.gives_are rows), h.stands.fails_are rows);

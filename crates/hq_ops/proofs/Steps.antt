@@ -1,16 +1,12 @@
 -- One more element of a loop over a list.
 use Rattle.std.proofs.Common.{◌≡◌, ℕ, zero, suc, ◌+◌, ◌<◌, Bool, true, false, ◌||◌, List, [], ◌∷◌, ◌++◌, map, take, length, get_or, Result, Ok, Err, refl, subst, sym, ◌∙◌, ap, arith}
 use Rattle.std.specs.Prelude.{OnOk}
-use Rattle.std.specs.Borrow.{Bor}
 use Rattle.std.specs.List.{list_any}
-use Rattle.std.proofs.lemmas.List.{map_more, length-map, get_or-map}
-use Rattle.std.proofs.lemmas.List.Folds.{list_any_more, list_any-append}
-use Rattle.hq_value.specs.declared.value.Value.{Value}
-use Rattle.hq_meaning.specs.Rows.{Row}
+use Rattle.std.proofs.lemmas.List.{map_more}
+use Rattle.std.proofs.lemmas.List.Folds.{list_any_more}
 use Rattle.hq_ops.specs.declared.end.Stop.{Stop}
 use Rattle.hq_ops.specs.declared.end.Stop.TheVariants as stop
 use Rattle.hq_ops.specs.Ends.{StopsAt}
-use Rattle.hq_ops.specs.Grouping.{the_rows}
 
 pub map-step : {X Y : Type 0} (f : X → Y) (xs : List X) (i : ℕ) (x : X) (out outs : List Y) (y : Y)
     → i < length xs → x ≡ get_or xs i x → out ≡ map f (take i xs) → y ≡ f x → outs ≡ out ++ y ∷ [] → outs ≡ map f (take (i + 1) xs)
@@ -29,19 +25,6 @@ pub any-at : {X : Type 0} (p : X → Bool) (xs : List X) (i : ℕ) (x : X) → i
 any-at p [] i x low at h = absurd (omega (arith, low))
 any-at p (y ∷ ys) zero x low at h = ap (λ b. b || list_any p ys) (sym (ap p at) ∙ h)
 any-at p (y ∷ ys) (suc i) x low at h = or-true (p y) (list_any p ys) (any-at p ys i x (omega arith) at h)
-
--- the same over references to rows
-pub rows-step : (rows : List (Bor (List Value))) (i : ℕ) (r : Bor (List Value)) → i < length rows → r ≡ get_or rows i r → the_rows (take (i + 1) rows) ≡ the_rows (take i rows) ++ r.now ∷ []
-rows-step rows i r low at = map_more (λ (s : Bor (List Value)). s.now) rows i r low ∙ ap (λ (s : Bor (List Value)). the_rows (take i rows) ++ s.now ∷ []) (sym at)
-
-pub rows-none : (p : Row → Bool) (rows : List (Bor (List Value))) (i : ℕ) (r : Bor (List Value))
-    → i < length rows → r ≡ get_or rows i r → list_any p (the_rows (take i rows)) ≡ false → p r.now ≡ false → list_any p (the_rows (take (i + 1) rows)) ≡ false
-rows-none p rows i r low at none here = ap (list_any p) (rows-step rows i r low at) ∙ list_any-append p (the_rows (take i rows)) (r.now ∷ []) ∙ (λ j. none j || (here j || false))
-
-pub rows-at : (p : Row → Bool) (rows : List (Bor (List Value))) (i : ℕ) (r : Bor (List Value)) → i < length rows → r ≡ get_or rows i r → p r.now ≡ true → list_any p (the_rows rows) ≡ true
-rows-at p rows i r low at h =
-    any-at p (the_rows rows) i r.now (omega (arith, low, length-map rows (λ (s : Bor (List Value)). s.now)))
-    (ap (λ (s : Bor (List Value)). s.now) at ∙ sym (get_or-map (λ (s : Bor (List Value)). s.now) rows i r r.now low)) h
 
 -- a step that stops stops the whole
 pub stops-on : (T : Type 0) {U : Type 0} (r : Result U Stop) (e f : Stop) (b c : Bool) → (b ≡ true → c ≡ true) → StopsAt {T = T} (Err e) b → r ≡ Err f → f ≡ e → StopsAt r c

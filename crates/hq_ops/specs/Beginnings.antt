@@ -1,6 +1,6 @@
 -- Which operator it is.
 --     IsJoinOf lk rk op, IsPartialOf keys as op, IsFinalOf n as op     it is a Join, a Partial or a Final of these
-use Rattle.std.specs.Prelude.{◌≡◌, ℕ, Bool, true, false, List}
+use Rattle.std.specs.Prelude.{◌≡◌, ℕ, true, false, List}
 use Rattle.hq_algebra.specs.declared.aggregate.Aggregate.{Aggregate}
 use Rattle.hq_algebra.specs.declared.op.Op.{Op}
 use Rattle.hq_meaning.specs.Rows.{Row}

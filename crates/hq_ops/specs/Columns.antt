@@ -6,7 +6,7 @@
 --     seen column running      what it has come to
 --     given column v           what stands for it in the rows that are given
 --     leaves column v          a count or a sum that has to be a number of 64 bits, and is none
-use Rattle.std.specs.Prelude.{ℕ, ◌+◌, Bool, false, List, [], ◌∷◌, map, pos}
+use Rattle.std.specs.Prelude.{◌+◌, Bool, false, List, [], ◌∷◌, map, pos}
 use Rattle.hq_value.specs.declared.value.Value.{Value}
 use Rattle.hq_value.specs.declared.value.Value.TheVariants as value
 use Rattle.hq_algebra.specs.declared.expr.Expr.TheVariants as expr

@@ -1,11 +1,11 @@
 pub mod Beginnings
+pub mod Chains
 pub mod Columns
 pub mod Ends
 pub mod Folds
 pub mod Gathering
 pub mod Grouped
 pub mod Grouping
-pub mod Keyed
 pub mod Parts
 pub mod Pipes
 pub mod Runnings

@@ -3,7 +3,7 @@
 --     is_streamed op              it gives what comes of rows at once: a Filter, a Project or a Join
 --     gives op build rows         what it gives over its rows; `build` has a Join's right rows
 --     fails op rows               some evaluation of it over its rows faults
-use Rattle.std.specs.Prelude.{◌≡◌, Bool, true, false, List, [], ◌∷◌, ◌++◌}
+use Rattle.std.specs.Prelude.{Bool, true, false, List}
 use Rattle.hq_algebra.specs.declared.op.Op.{Op}
 use Rattle.hq_algebra.specs.declared.op.Op.TheVariants as op
 use Rattle.hq_meaning.specs.Rows.{Row}

@@ -7,7 +7,6 @@
 --     EndsAs end pipe                           after an end without rows the pipe has ended so
 --     HasEnded why pipe                         a pipe has ended: each later call ends so again
 use Rattle.std.specs.Prelude.{◌≡◌, Bool, true, List, ◌++◌}
-use Rattle.hq_value.specs.declared.value.Value.{Value}
 use Rattle.hq_algebra.specs.declared.op.Op.{Op}
 use Rattle.hq_meaning.specs.Rows.{Row}
 use Rattle.hq_ops.specs.declared.end.OpEnd.{OpEnd}

@@ -3,20 +3,19 @@
 --     Holds op build pushed given work        these rows were pushed, those were given, and no evaluation has faulted
 --     Took op build pushed given rows result  rows were taken
 --     HasEnded stop work                      it has ended so
-use Rattle.std.specs.Prelude.{◌≡◌, ℕ, Bool, true, false, List, [], ◌∷◌, ◌++◌, Result, Ok, Err}
+use Rattle.std.specs.Prelude.{◌≡◌, ℕ, Bool, true, false, List, [], ◌++◌, Result, Ok, Err}
 use Rattle.std.specs.Global.{Vec}
 use Rattle.hq_value.specs.declared.value.Value.{Value}
 use Rattle.hq_algebra.specs.declared.op.Op.{Op}
-use Rattle.hq_meaning.specs.Rows.{Row, firsts}
-use Rattle.hq_meaning.specs.Groups.{key_of}
+use Rattle.hq_meaning.specs.Rows.{Row}
 use Rattle.hq_meaning.specs.Operators.{filtered, projected, project_faults, joined, distinct, sorted}
+use Rattle.hq_ops.specs.declared.chains.Chains.{Chains}
 use Rattle.hq_ops.specs.declared.column.Column.{Column}
 use Rattle.hq_ops.specs.declared.end.Stop.{Stop}
 use Rattle.hq_ops.specs.declared.end.Stop.TheVariants as stop
 use Rattle.hq_ops.specs.declared.work.Work.{Work}
 use Rattle.hq_ops.specs.declared.work.Work.TheVariants as work
 use Rattle.hq_ops.specs.Gathering.{HasGathered, group_rows, some_fault}
-use Rattle.hq_ops.specs.Grouping.{groups_of, IsGrouping}
 use Rattle.hq_ops.specs.Sorts.{StandFor}
 use Rattle.hq_ops.specs.Pipes.{gives, fails, is_streamed}
 
@@ -29,10 +28,11 @@ pub record Stands (given_by : List Row → List Row) (failing : List Row → Boo
 abbrev pub never : List Row → Bool
 never rows = false
 
--- the right rows of a Join by their keys, and the pairs so far
-pub record HasJoined (op : Op) (build pushed given : List Row) (lk rk : List ℕ) (keys : List Row) (groups : List (List Row)) : Type 0 where
+-- the right rows of a Join, chained by their keys, and the pairs so far
+pub record HasJoined (op : Op) (build pushed given : List Row) (lk rk : List ℕ) (right : Chains) : Type 0 where
   pub stands : Stands (λ rows. joined lk rk rows build) never true op build
-  pub grouped : IsGrouping (key_of rk) build keys groups
+  pub keys_are : right.keys.now ≡ rk
+  pub rows_are : right.rows.now ≡ build
   pub given_are : given ≡ joined lk rk pushed build
 
 -- these rows were pushed, those were given, and no evaluation has faulted
@@ -40,7 +40,7 @@ abbrev pub Holds : Op → List Row → List Row → List Row → Work → Type 0
 Holds op build pushed given (work.Filter cond) = Stands (filtered cond.now) never true op build × (given ≡ filtered cond.now pushed)
 Holds op build pushed given (work.Project items) =
     Stands (projected items.now) (project_faults items.now) true op build × (given ≡ projected items.now pushed) × (project_faults items.now pushed ≡ false)
-Holds op build pushed given (work.Join lk rk right) = HasJoined op build pushed given lk.now rk.now right.keys.keys (groups_of right.rows.items)
+Holds op build pushed given (work.Join lk rk right) = HasJoined op build pushed given lk.now rk.now right
 Holds op build pushed given (work.Group by g) =
     (columns : List Column) × Stands (group_rows by columns) (some_fault by columns) false op build × HasGathered by columns pushed g.keys.keys g.tallies.items × (given ≡ [])
 Holds op build pushed given (work.Distinct seen) = Stands distinct never false op build × (seen.keys ≡ distinct pushed) × (given ≡ [])

@@ -6,9 +6,10 @@ ghost use Rattle.hq_ops.specs.Beginnings.{IsPartialOf, IsFinalOf, IsJoinOf};
 ghost use Rattle.hq_ops.specs.Pipes.{takes_rows};
 ghost use Rattle.hq_ops.specs.Works.{Holds};
 
+use crate::chains::Chains;
 use crate::finals::final_columns;
 use crate::gathering::nothing_gathered;
-use crate::groups::{GroupBy, group};
+use crate::groups::GroupBy;
 use crate::partial::partial_columns;
 use crate::work::Work;
 use hq_algebra::{Aggregates, Keys16, Op};
@@ -58,7 +59,7 @@ fn begin_join<'a>(
 ) -> Result<Work<'a>, NoMemory>
     ensures { IfOk result (λ work. (op : Operator) → IsJoinOf left_keys.now right_keys.now op → Holds op build.now [] [] work) }
 {
-    let right = group(alloc, &GroupBy::Columns(right_keys.as_slice()), build)?;
+    let right = Chains::new(alloc, right_keys.as_slice(), build)?;
     Ok(Work::Join {
         left_keys,
         right_keys,

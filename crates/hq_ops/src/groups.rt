@@ -1,11 +1,10 @@
-//! Rows grouped by a key.
+//! Keys of rows.
 ghost use Rattle.std.specs.Prelude.{◌≡◌, ◌==◌, IfOk, take};
 ghost use Rattle.hq_algebra.specs.Eval.{column};
 ghost use Rattle.hq_meaning.specs.Groups.{key_of};
-ghost use Rattle.hq_ops.specs.Grouping.{key_by, width_by, groups_of, IsGrouping};
+ghost use Rattle.hq_ops.specs.Grouping.{key_by, width_by};
 
 use hq_value::{NoMemory, Row, Value};
-use indexmap::IndexSet;
 use std::alloc::Global;
 
 /// What makes the key of a row: the columns at these places, or so many of the first.
@@ -13,13 +12,6 @@ use std::alloc::Global;
 pub enum GroupBy<'a> {
     Columns(&'a [u16]),
     First(u16),
-}
-
-/// The keys by first appearance, and the rows of each.
-#[derive(Drop)]
-pub struct Groups<'a> {
-    pub keys: IndexSet<Row>,
-    pub rows: Vec<Vec<&'a Row>>,
 }
 
 /// The value at a place; NULL past the end, where no column of a plan is.
@@ -76,21 +68,4 @@ impl GroupBy<'_> {
             GroupBy::First(count) => *count == 0,
         }
     }
-}
-
-/// Groups rows. NULLs of a key are equal.
-pub fn group<'a>(alloc: Global, by: &GroupBy, rows: &'a [Row]) -> Result<Groups<'a>, NoMemory>
-    ensures { IfOk result (λ found. IsGrouping (key_by by.now) rows.now found.keys.keys (groups_of found.rows.items)) }
-{
-    let mut keys = IndexSet::new(alloc);
-    let mut groups = Vec::new(alloc);
-    for row in rows {
-        let (index, fresh) = keys.insert_full(by.key(alloc, row)?)?;
-        if fresh {
-            groups.push(Vec::new(alloc))?;
-        }
-        let group: &mut Vec<&Row> = &mut groups[index];
-        group.push(row)?;
-    }
-    Ok(Groups { keys, rows: groups })
 }

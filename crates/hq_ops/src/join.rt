@@ -1,15 +1,16 @@
 //! Pairs of rows whose keys are equal.
-ghost use Rattle.std.specs.Prelude.{◌≡◌, ◌++◌, IfOk, OnOk, List, MatchOption, ℕ, [], map, false};
-ghost use Rattle.hq_value.specs.declared.value.Value.{Value as Datum};
-ghost use Rattle.hq_meaning.specs.Groups.{key_of, members};
-ghost use Rattle.hq_meaning.specs.Operators.{joined, beside};
+ghost use Rattle.std.specs.Prelude.{◌≡◌, ◌++◌, ◌∷◌, [], IfOk, OnOk, List, ℕ, map, false};
+ghost use Rattle.std.specs.Option.{option_map_or};
+ghost use Rattle.hq_algebra.specs.Eval.{column};
+ghost use Rattle.hq_meaning.specs.Operators.{joined, beside, matches, meets};
+ghost use Rattle.hq_value.specs.declared.value.Value.TheVariants as Datum;
+ghost use Rattle.hq_ops.specs.Chains.{Linked, row_at};
 ghost use Rattle.hq_ops.specs.Ends.{Gives, IsNumericAt};
-ghost use Rattle.hq_ops.specs.Grouping.{the_rows, groups_of, IsGrouping, has_null};
 
 use crate::OpEnd;
-use crate::groups::{GroupBy, Groups, group, key_row};
+use crate::chains::Chains;
 use hq_algebra::Keys16;
-use hq_value::{NoMemory, Row, Value};
+use hq_value::{NoMemory, Row, Value, compare_values};
 use std::alloc::Global;
 
 /// The pairs whose keys are all equal and not NULL, by left row and then by right row. The left columns come first.
@@ -45,75 +46,117 @@ fn join(
 ) -> Result<Vec<Row>, NoMemory>
     ensures { IfOk result (λ found. found.items ≡ joined left_keys.now right_keys.now left.now right.now) }
 {
-    let groups = group(alloc, &GroupBy::Columns(right_keys), right)?;
-    join_groups(alloc, left, left_keys, &groups)
+    let chains = Chains::new(alloc, right_keys, right)?;
+    join_chains(alloc, left, left_keys, &chains)
 }
 
-/// The pairs of left rows, where the right rows are grouped by their keys.
-pub fn join_groups(
+/// The pairs of left rows, where the right rows are chained by their keys.
+pub fn join_chains(
     alloc: Global,
     left: &[Row],
     keys: &[u16],
-    groups: &Groups,
+    right: &Chains,
 ) -> Result<Vec<Row>, NoMemory>
-    ensures { (right_keys : List ℕ) (right : List (List Datum)) → IsGrouping (key_of right_keys) right groups.now.keys.keys (groups_of groups.now.rows.items) →
-        IfOk result (λ found. found.items ≡ joined keys.now right_keys left.now right) }
+    ensures { IfOk result (λ found. found.items ≡ joined keys.now right.now.keys.now left.now right.now.rows.now) }
 {
     let mut found = Vec::new(alloc);
     for row in left {
-        push_pairs(alloc, row, keys, groups, &mut found)?;
+        push_pairs(alloc, row, keys, right, &mut found)?;
     }
     Ok(found)
 }
 
-// The pairs of one left row, where the right rows are grouped by their keys.
+// The pairs of one left row.
 fn push_pairs(
     alloc: Global,
     left: &Row,
     keys: &[u16],
-    groups: &Groups,
+    right: &Chains,
     found: &mut Vec<Row>,
 ) -> Result<(), NoMemory>
-    ensures { (right_keys : List ℕ) (right : List (List Datum)) → IsGrouping (key_of right_keys) right groups.now.keys.keys (groups_of groups.now.rows.items) → OnOk result (found.new.items ≡ found.old.items ++ beside keys.now right_keys right left.now) }
+    ensures { OnOk result (found.new.items ≡ found.old.items ++ beside keys.now right.now.keys.now right.now.rows.now left.now) }
 {
-    let key = key_row(alloc, keys, left)?;
-    if is_part_null(&key) {
-        return Ok(());
-    }
-    match rows_of(groups, &key) {
-        Some(rows) => push_beside(alloc, left, rows.as_slice(), found),
-        None => Ok(()),
-    }
+    let first = right.first_of(keys, left);
+    push_chain(alloc, left, keys, right, first, found)
 }
 
-fn is_part_null(key: &Row) -> bool
-    ensures { result ≡ has_null key.now }
-{
-    key.as_slice()
-        .iter()
-        .any(|value| matches!(value, Value::Null))
-}
-
-// The rows of the group of a key, if there is one.
-fn rows_of<'g, 'a>(groups: &'g Groups<'a>, key: &Row) -> Option<&'g Vec<&'a Row>>
-    ensures { (by : List Datum → List Datum) (rows : List (List Datum)) → IsGrouping by rows groups.now.keys.keys (groups_of groups.now.rows.items) → MatchOption result (members by key.now rows ≡ []) (λ found. the_rows found.now.items ≡ members by key.now rows) }
-{
-    let index = groups.keys.get_index_of(key)?;
-    groups.rows.get(index)
-}
-
-fn push_beside(
+// The pairs of one left row and the rows of a chain from a place on.
+fn push_chain(
     alloc: Global,
     left: &Row,
-    right: &[&Row],
+    keys: &[u16],
+    right: &Chains,
+    first: usize,
     found: &mut Vec<Row>,
 ) -> Result<(), NoMemory>
-    ensures { OnOk result (found.new.items ≡ found.old.items ++ map (λ r. left.now ++ r) (the_rows right.now)) }
+    ensures { (places : List ℕ) → Linked right.now.next.items first places →
+        OnOk result (found.new.items ≡ found.old.items ++ beside keys.now right.now.keys.now (map (row_at right.now.rows.now) places) left.now) }
 {
-    for row in right {
-        found.push(pair(alloc, left, row)?)?;
+    let mut place = first;
+    'chain: while place < right.rows.len() {
+        let row = &right.rows[place];
+        push_match(alloc, left, keys, right.keys, row, found)?;
+        place = right.after(place);
     }
     Ok(())
+}
+
+// The pair of two rows, if they match.
+#[inline]
+fn push_match(
+    alloc: Global,
+    left: &Row,
+    left_keys: &[u16],
+    right_keys: &[u16],
+    right: &Row,
+    found: &mut Vec<Row>,
+) -> Result<(), NoMemory>
+    ensures { OnOk result (found.new.items ≡ found.old.items ++ beside left_keys.now right_keys.now (right.now ∷ []) left.now) }
+{
+    if is_match(left_keys, right_keys, left, right) {
+        found.push(pair(alloc, left, right)?)?;
+    }
+    Ok(())
+}
+
+// Keys match where they are equal in pairs and none is NULL.
+#[inline]
+fn is_match(left_keys: &[u16], right_keys: &[u16], left: &Row, right: &Row) -> bool
+    ensures { result ≡ matches left_keys.now right_keys.now left.now right.now }
+{
+    match left_keys {
+        [] => right_keys.is_empty(),
+        [l, ls @ ..] => match right_keys {
+            [] => false,
+            [r, rs @ ..] => {
+                if !are_equal(value_at(left, *l), value_at(right, *r)) {
+                    return false;
+                }
+                is_match(ls, rs, left, right)
+            }
+        },
+    }
+}
+
+// The value at a place, none where it is past the end, where no column of a plan is.
+#[inline]
+fn value_at(row: &Row, place: u16) -> Option<&Value>
+    ensures { option_map_or (λ value. value.now) result Datum.Null ≡ column row.now place }
+{
+    row.as_slice().get(place as usize)
+}
+
+// Whether two values are equal and none is NULL.
+#[inline]
+fn are_equal(a: Option<&Value>, b: Option<&Value>) -> bool
+    ensures { result ≡ meets (option_map_or (λ value. value.now) a.entry Datum.Null) (option_map_or (λ value. value.now) b.entry Datum.Null) }
+{
+    match (a, b) {
+        (Some(Value::Int(a)), Some(Value::Int(b))) => *a == *b,
+        (Some(Value::Null), _) => false,
+        (Some(a), Some(b)) => compare_values(a, b).is_eq(),
+        _ => false,
+    }
 }
 
 fn pair(alloc: Global, left: &Row, right: &Row) -> Result<Row, NoMemory>

@@ -3,6 +3,7 @@
 
 mod begin;
 mod best;
+mod chains;
 mod column;
 mod distinct;
 mod end;

@@ -34,7 +34,7 @@ pub fn rest(alloc: Global, work: Work) -> Result<Vec<Row>, Stop>
         Work::Join { .. } => Ok(Vec::new(alloc)),
         Work::Group { by, gathered } => finished(alloc, &by, &gathered),
         Work::Distinct(seen) => all_firsts(alloc, seen),
-        Work::Sort { order, limit, rows } => all_sorted(alloc, order, limit, rows),
+        Work::Sort { order, limit, rows } => all_sorted(order, limit, rows),
         Work::Ended(stop) => Err(stop),
     }
 }
@@ -47,15 +47,9 @@ fn all_firsts(alloc: Global, seen: IndexSet<Row>) -> Result<Vec<Row>, Stop>
     Ok(found)
 }
 
-fn all_sorted(
-    alloc: Global,
-    order: &SortKeys,
-    limit: Option<u64>,
-    rows: Vec<Row>,
-) -> Result<Vec<Row>, Stop>
+fn all_sorted(order: &SortKeys, limit: Option<u64>, rows: Vec<Row>) -> Result<Vec<Row>, Stop>
     ensures rows { IfOk result (λ found. found.items ≡ sorted order.now limit rows.items) }
     ensures numeric { StopsAt result false }
 {
-    let found = sort_to(alloc, order.as_slice(), limit, rows)?;
-    Ok(found)
+    Ok(sort_to(order.as_slice(), limit, rows))
 }

@@ -5,13 +5,14 @@ ghost use Rattle.hq_algebra.specs.declared.op.Op.{Op as Operator};
 ghost use Rattle.hq_ops.specs.declared.end.Stop.{Stop as Why};
 ghost use Rattle.hq_ops.specs.Works.{Holds, Took};
 
+use crate::chains::Chains;
 use crate::distinct::add_firsts;
 use crate::end::Stop;
 use crate::filter::keep;
 use crate::gathered::Gathered;
 use crate::gathering::gather;
-use crate::groups::{GroupBy, Groups};
-use crate::join::join_groups;
+use crate::groups::GroupBy;
+use crate::join::join_chains;
 use crate::project::project;
 use crate::sort::shortened;
 use crate::work::Work;
@@ -61,13 +62,13 @@ fn take_left<'a>(
     alloc: Global,
     left_keys: &'a Keys16,
     right_keys: &'a Keys16,
-    right: Groups<'a>,
+    right: Chains<'a>,
     rows: Vec<Row>,
 ) -> Result<(Work<'a>, Vec<Row>), Stop>
     ensures { (op : Operator) (build pushed given : List (List Datum)) →
         Holds op build pushed given (Work.Join left_keys.entry right_keys.entry right.entry) → Took op build pushed given rows.items result }
 {
-    let found = join_groups(alloc, &rows, left_keys.as_slice(), &right)?;
+    let found = join_chains(alloc, &rows, left_keys.as_slice(), &right)?;
     let work = Work::Join {
         left_keys,
         right_keys,
@@ -112,7 +113,7 @@ fn take_sorted<'a>(
         Holds op build pushed given (Work.Sort order.entry limit kept) → Took op build pushed given rows.items result }
 {
     let all = with_more(kept, rows)?;
-    let rows = shortened(alloc, order.as_slice(), limit, all)?;
+    let rows = shortened(order.as_slice(), limit, all);
     let work = Work::Sort { order, limit, rows };
     Ok((work, Vec::new(alloc)))
 }

@@ -1,8 +1,9 @@
 //! What an operator keeps between its rows.
 
+use crate::chains::Chains;
 use crate::end::Stop;
 use crate::gathered::Gathered;
-use crate::groups::{GroupBy, Groups};
+use crate::groups::GroupBy;
 use hq_algebra::{Expr, Exprs, Keys16, SortKeys};
 use hq_value::Row;
 use indexmap::IndexSet;
@@ -16,7 +17,7 @@ pub enum Work<'a> {
     Join {
         left_keys: &'a Keys16,
         right_keys: &'a Keys16,
-        right: Groups<'a>,
+        right: Chains<'a>,
     },
     Group {
         by: GroupBy<'a>,

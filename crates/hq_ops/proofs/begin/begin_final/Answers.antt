@@ -1,4 +1,4 @@
-use Rattle.std.proofs.Common.{◌≡◌, ◌∙◌, [], List, ap, subst}
+use Rattle.std.proofs.Common.{◌∙◌, [], List, ap, subst}
 use Rattle.hq_ops.specs.declared.column.Column.{Column}
 use Rattle.hq_ops.specs.declared.groups.GroupBy.TheVariants as by
 use Rattle.hq_ops.specs.Gathering.{HasGathered}

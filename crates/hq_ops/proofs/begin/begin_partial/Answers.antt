@@ -1,4 +1,4 @@
-use Rattle.std.proofs.Common.{◌≡◌, ◌∙◌, List, sym, subst}
+use Rattle.std.proofs.Common.{List, sym, subst}
 use Rattle.hq_algebra.specs.declared.aggregate.Aggregate.{Aggregate}
 use Rattle.hq_ops.specs.declared.column.Column.{Column}
 use Rattle.hq_ops.specs.Beginnings.{IsPartialOf}

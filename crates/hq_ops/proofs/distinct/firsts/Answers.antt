@@ -1,4 +1,4 @@
-use Rattle.std.proofs.Common.{◌≡◌, ◌∙◌, []}
+use Rattle.std.proofs.Common.{◌∙◌, []}
 use Rattle.std.proofs.lemmas.Result.{IfOk-weaker}
 use Rattle.hq_ops.proofs.Steps.{none-long}
 use Rattle.hq_ops.proofs.distinct.firsts.Goals as goal

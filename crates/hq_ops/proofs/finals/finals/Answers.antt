@@ -1,8 +1,7 @@
-use Rattle.std.proofs.Common.{◌≡◌, ◌∙◌, Bool, true, false, List, [], sym, ap, subst}
+use Rattle.std.proofs.Common.{◌≡◌, ◌∙◌, Bool, true, false, [], sym, ap, subst}
 use Rattle.std.specs.List.{list_any}
 use Rattle.std.proofs.lemmas.Result.{IfOk-weaker, err_from_is_err_and}
 use Rattle.hq_ops.specs.Ends.{StopsAt}
-use Rattle.hq_ops.specs.Grouped.{final_columns}
 use Rattle.hq_ops.specs.declared.groups.GroupBy.TheVariants as by
 use Rattle.hq_ops.specs.Gathering.{group_rows, group_leaves, row_faults}
 use Rattle.hq_ops.proofs.Grouped.{final-is, final-faults-are, final-reads-never}

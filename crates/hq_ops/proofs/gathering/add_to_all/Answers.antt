@@ -1,4 +1,4 @@
-use Rattle.std.proofs.Common.{◌≡◌, ◌∙◌, ◌<◌, length, refl, sym, subst, arith}
+use Rattle.std.proofs.Common.{◌<◌, length, refl, sym, subst, arith}
 use Rattle.hq_ops.specs.declared.gathered.Tally.{Tally}
 use Rattle.hq_ops.specs.Columns.{reads_fault}
 use Rattle.hq_ops.specs.Gathering.{started}

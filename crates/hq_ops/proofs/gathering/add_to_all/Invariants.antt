@@ -1,8 +1,7 @@
-use Rattle.std.proofs.Common.{◌≡◌, ◌<◌, ◌≤◌, ℕ, length, get_or, take, false}
+use Rattle.std.proofs.Common.{◌≡◌, take, false}
 use Rattle.std.specs.List.{list_any}
 use Rattle.hq_ops.specs.declared.gathered.Tally.{Tally}
 use Rattle.hq_ops.specs.Columns.{reads_fault}
-use Rattle.hq_ops.specs.Gathering.{GrewAt}
 use Rattle.hq_ops.proofs.Tallies.{FrontGrew}
 use Rattle.hq_ops.proofs.gathering.add_to_all.Given as goal
 

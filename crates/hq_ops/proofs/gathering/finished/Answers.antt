@@ -1,4 +1,4 @@
-use Rattle.std.proofs.Common.{◌≡◌, ◌∙◌, ◌==◌, Bool, length, sym, ap, subst, map}
+use Rattle.std.proofs.Common.{◌∙◌, ◌==◌, Bool, length, ap, subst, map}
 use Rattle.std.specs.List.{list_any}
 use Rattle.std.proofs.lemmas.Result.{IfOk-weaker}
 use Rattle.hq_meaning.specs.Groups.{members}

@@ -1,9 +1,9 @@
-use Rattle.std.proofs.Common.{◌≡◌, ◌∙◌, ◌++◌, ◌∷◌, [], List, map, take, refl, sym, ap, subst, append_assoc}
+use Rattle.std.proofs.Common.{◌∙◌, ◌++◌, ◌∷◌, [], List, map, take, refl, sym, ap, subst, append_assoc}
 use Rattle.std.proofs.lemmas.List.{append-nil, take_more}
 use Rattle.hq_value.specs.declared.value.Value.{Value}
 use Rattle.hq_ops.specs.declared.gathered.Tally.{Tally}
 use Rattle.hq_ops.specs.Gathering.{HasGathered, row_faults}
-use Rattle.hq_ops.proofs.Steps.{any-step, any-at, stops-on}
+use Rattle.hq_ops.proofs.Steps.{any-step}
 use Rattle.hq_ops.proofs.gathering.gather.Goals as goal
 
 pub loop-row-init : goal.loop-row-init

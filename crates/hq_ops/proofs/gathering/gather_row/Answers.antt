@@ -1,7 +1,5 @@
-use Rattle.std.proofs.Common.{◌≡◌, ◌∙◌, ◌+◌, ◌<◌, Bool, cond, length, refl, sym, ap, subst, arith}
+use Rattle.std.proofs.Common.{◌≡◌, ◌+◌, ◌<◌, Bool, cond, length, refl, subst, arith}
 use Rattle.hq_ops.specs.Ends.{StopsAt}
-use Rattle.hq_ops.specs.Columns.{reads_fault}
-use Rattle.hq_ops.specs.declared.gathered.Tally.{Tally}
 use Rattle.hq_ops.proofs.Steps.{on-ok}
 use Rattle.hq_ops.proofs.Gathers.{gathered-step, even-step, has-place, columns-same, faults-by}
 use Rattle.hq_ops.proofs.gathering.gather_row.Goals as goal

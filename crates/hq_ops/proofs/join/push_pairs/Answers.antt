@@ -1,25 +1,17 @@
-use Rattle.std.proofs.Common.{◌≡◌, ◌++◌, [], List, OnOk, map, subst, ap, sym, ◌∙◌}
-use Rattle.hq_value.specs.declared.value.Value.{Value as Datum}
-use Rattle.hq_meaning.specs.Groups.{key_of, members}
-use Rattle.hq_meaning.specs.Operators.{beside}
-use Rattle.hq_ops.specs.Grouping.{the_rows, has_null}
-use Rattle.hq_ops.proofs.Joining.{nothing_more, beside-null, beside-members}
+use Rattle.std.proofs.Common.{◌≡◌, ◌++◌, List, length, OnOk, subst, sym}
+use Rattle.hq_value.specs.declared.value.Value.{Value}
+use Rattle.hq_meaning.specs.Groups.{key_of}
+use Rattle.hq_ops.specs.Chains.{chain_by, places, Linked}
+use Rattle.hq_ops.proofs.Chaining.{chain-is-all, chain-inside}
 use Rattle.hq_ops.proofs.join.push_pairs.Goals as goal
 
-pub returns-then-is_part_null : goal.returns-then-is_part_null
-returns-then-is_part_null c rk right g = nothing_more _ _ (beside-null c.args.keys.now rk right c.args.left.now (ap has_null (sym c.in_ok-key.ensures) ∙ sym c.if-is_part_null.ensures))
-
-pub returns-in-Some : goal.returns-in-Some
-returns-in-Some c rk right g =
-    let group : the_rows c.in-Some.rows.now.items ≡ members (key_of rk) c.in_ok-key.key right = c.in-Some.ensures (key_of rk) right g in
-    let pairs : beside c.args.keys.now rk right c.args.left.now ≡ map (λ (r : List Datum). c.args.left.now ++ r) (the_rows c.as_slice.result.now) =
-    beside-members c.args.keys.now rk right c.args.left.now (ap has_null (sym c.in_ok-key.ensures) ∙ sym c.if-is_part_null.ensures)
-    ∙ ap (λ rows. map (λ (r : List Datum). c.args.left.now ++ r) rows) (ap (λ k. members (key_of rk) k right) (sym c.in_ok-key.ensures) ∙ sym group ∙ ap the_rows (sym c.as_slice.ensures.value)) in
-    let P : List (List Datum) → Type 0 = λ rows. OnOk c.push_beside.result (c.push_beside.new.found.items ≡ c.args.found.now.items ++ rows) in
-    subst P (sym pairs) c.push_beside.ensures
-
 pub returns : goal.returns
-returns c rk right g =
-    let group : members (key_of rk) c.in_ok-key.key right ≡ [] = c.in-None.ensures (key_of rk) right g in
-    nothing_more _ _ (beside-members c.args.keys.now rk right c.args.left.now (ap has_null (sym c.in_ok-key.ensures) ∙ sym c.if-is_part_null.ensures)
-    ∙ ap (λ rows. map (λ (r : List Datum). c.args.left.now ++ r) rows) (ap (λ k. members (key_of rk) k right) (sym c.in_ok-key.ensures) ∙ group))
+returns c =
+    let right = c.args.right.now in
+    let count = length right.first.items in
+    let chain = chain_by right.start count (key_of c.args.keys.now c.args.left.now) in
+    let all = places right.start count right.keys.now chain 0 right.rows.now in
+    let linked : Linked right.next.items c.first_of-first.result all =
+    subst (λ n. Linked right.next.items n all) (sym c.first_of-first.ensures) (right.chained.chained chain (chain-inside right.start count (key_of c.args.keys.now c.args.left.now) right.chained.some)) in
+    subst (λ (rows : List (List Value)). OnOk c.push_chain.result (c.push_chain.new.found.items ≡ c.args.found.now.items ++ rows)) (chain-is-all right.start count c.args.keys.now right.keys.now c.args.left.now right.rows.now)
+    (c.push_chain.ensures all linked)

@@ -1,4 +1,4 @@
-use Rattle.std.proofs.Common.{◌≡◌, ◌∙◌, Bool, List, [], sym, ap, subst}
+use Rattle.std.proofs.Common.{◌∙◌, Bool, List, [], sym, ap, subst}
 use Rattle.std.proofs.lemmas.Result.{IfOk-weaker}
 use Rattle.hq_ops.specs.declared.column.Column.{Column}
 use Rattle.hq_ops.specs.Ends.{StopsAt}

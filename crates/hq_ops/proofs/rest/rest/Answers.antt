@@ -1,11 +1,10 @@
-use Rattle.std.proofs.Common.{◌≡◌, ◌∙◌, ◌++◌, [], List, Bool, sym, ap, subst}
+use Rattle.std.proofs.Common.{◌∙◌, [], Bool, sym, ap, subst}
 use Rattle.std.proofs.lemmas.List.{append-nil}
 use Rattle.std.proofs.lemmas.Result.{IfOk-weaker}
-use Rattle.hq_meaning.specs.Operators.{filtered, projected, project_faults, joined, distinct, sorted}
+use Rattle.hq_meaning.specs.Operators.{sorted}
 use Rattle.hq_ops.specs.declared.work.Work.{Work}
 use Rattle.hq_ops.specs.Ends.{StopsAt}
-use Rattle.hq_ops.specs.Gathering.{group_rows, some_fault}
-use Rattle.hq_ops.specs.Works.{Holds, never}
+use Rattle.hq_ops.specs.Works.{Holds}
 use Rattle.hq_ops.proofs.Pipes.{rest-streamed, rest-kept, keeps-nothing, rest-faults}
 use Rattle.hq_ops.proofs.rest.rest.Goals as goal
 

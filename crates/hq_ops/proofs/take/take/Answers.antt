@@ -1,4 +1,4 @@
-use Rattle.std.proofs.Common.{◌≡◌, ◌∙◌, List, sym, subst}
+use Rattle.std.proofs.Common.{subst}
 use Rattle.hq_ops.specs.declared.work.Work.{Work}
 use Rattle.hq_ops.specs.Works.{Holds}
 use Rattle.hq_ops.proofs.Pipes.{took-filter}

@@ -1,4 +1,4 @@
-use Rattle.std.proofs.Common.{◌≡◌, false, refl}
+use Rattle.std.proofs.Common.{false, refl}
 use Rattle.hq_ops.proofs.Pipes.{nothing-streams, nil-more}
 use Rattle.hq_ops.proofs.take.take_distinct.Goals as goal
 

@@ -1,6 +1,4 @@
-use Rattle.std.proofs.Common.{◌≡◌, ap}
-use Rattle.std.proofs.lemmas.Result.{err_from_is_err_and}
-use Rattle.hq_ops.proofs.Pipes.{took-project, project-fault}
+use Rattle.hq_ops.proofs.Pipes.{took-project}
 use Rattle.hq_ops.proofs.take.take_project.Goals as goal
 
 pub returns : goal.returns

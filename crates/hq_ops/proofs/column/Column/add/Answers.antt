@@ -1,4 +1,4 @@
-use Rattle.std.proofs.Common.{◌≡◌, refl, sym, ap, ◌∙◌}
+use Rattle.std.proofs.Common.{sym, ◌∙◌}
 use Rattle.hq_ops.proofs.Steps.{on-ok}
 use Rattle.hq_ops.proofs.Folds.{sought}
 use Rattle.hq_ops.proofs.column.Column.add.Goals as goal

@@ -1,6 +1,5 @@
-use Rattle.std.proofs.Common.{◌≡◌, ◌∙◌, [], sym, ap, subst}
+use Rattle.std.proofs.Common.{[], sym, subst}
 use Rattle.hq_ops.specs.declared.end.OpEnd.{OpEnd}
-use Rattle.hq_ops.specs.Ends.{ended}
 use Rattle.hq_ops.specs.Pipes.{gives}
 use Rattle.hq_ops.specs.Taking.{GivesRest}
 use Rattle.hq_ops.proofs.Pipes.{gives-rest}

@@ -1,13 +1,11 @@
-use Rattle.std.proofs.Common.{◌≡◌, ◌∙◌, ◌++◌, List, Ok, Err, Result, refl, sym, ap, subst}
-use Rattle.std.specs.Prelude.{true}
+use Rattle.std.proofs.Common.{◌++◌, sym, subst}
 use Rattle.hq_ops.specs.declared.end.OpEnd.{OpEnd}
-use Rattle.hq_ops.specs.declared.pipe.Pipe.{Pipe}
 use Rattle.hq_ops.specs.declared.work.Work.{Work}
-use Rattle.hq_ops.specs.Ends.{Gives, IsNumericAt, end_of}
+use Rattle.hq_ops.specs.Ends.{Gives, IsNumericAt}
 use Rattle.hq_ops.specs.Pipes.{gives, fails}
-use Rattle.hq_ops.specs.Taking.{HasTakenAfter, FailsFor, EndsAs}
-use Rattle.hq_ops.specs.Works.{Holds, Took}
-use Rattle.hq_ops.proofs.Pipes.{ends-so, fails-so, nothing-after, streams-so}
+use Rattle.hq_ops.specs.Taking.{FailsFor}
+use Rattle.hq_ops.specs.Works.{Holds}
+use Rattle.hq_ops.proofs.Pipes.{fails-so, streams-so}
 use Rattle.hq_ops.proofs.pipe.Pipe.push.Goals as goal
 
 pub returns-in-Ok-clause-rows : goal.returns-in-Ok-clause-rows
