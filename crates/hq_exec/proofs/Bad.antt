@@ -1,6 +1,6 @@
 -- Bytes that begin no block, told of more.
 use Rattle.std.proofs.Common.{◌≡◌, ◌∙◌, ℕ, Bool, true, List, [], ◌∷◌, ◌++◌, Ok, Err, Result, IsTrue, refl, sym, ap, subst}
-use Rattle.std.specs.Prelude.{Contains}
+use Rattle.std.specs.Prelude.{Contains, IsErrOf}
 use Rattle.hq_value.specs.declared.kind.Kind.{Kind}
 use Rattle.hq_value.specs.declared.entry.FileId.{FileId}
 use Rattle.hq_algebra.specs.declared.op.Op.{Op}
@@ -35,6 +35,12 @@ never-ended T U file fault.Store h = tt
 never-ended T U file (fault.BadBlock at bytes) h = h
 never-ended T U file fault.NoMemory h = tt
 
+-- a fault of the store is one of the scan
+pub store-ended : (T : Type 0) (file : FileId) (e : ScanFault) → IsErrOf {T = T} (Err (ended file e)) ending.Store → e ≡ fault.Store
+store-ended T file fault.Store h = refl
+store-ended T file (fault.BadBlock at bytes) h = absurd cc
+store-ended T file fault.NoMemory h = absurd cc
+
 pub of-file : (file : FileId) (kinds : List Kind) (id : FileId) (at : ℕ) (bytes : List ℕ) → IsBadBlock file kinds id at bytes → IsBadOf file.table file.bucket kinds id at bytes
 of-file file kinds id at bytes b = record { table_is = ap (λ (f : FileId). f.table) b.is; bucket_is = ap (λ (f : FileId). f.bucket) b.is; from = b.from; to = b.to; bad = b.bad }
 
@@ -62,3 +68,7 @@ bad-more (Ok x) P Q f h = tt
 bad-more (Err ending.Store) P Q f h = tt
 bad-more (Err (ending.BadBlock file at bytes)) P Q f h = f file at bytes.items h
 bad-more (Err ending.NoMemory) P Q f h = tt
+
+-- a bad block of a file is one of its table and bucket
+pub bad-so-file : (r : Result Unit Ending) (file : FileId) (own kinds : List Kind) → own ≡ kinds → IfBadBlock r (IsBadBlock file own) → IfBadBlock r (IsBadOf file.table file.bucket kinds)
+bad-so-file r file own kinds same h = bad-more r (IsBadBlock file own) (IsBadOf file.table file.bucket kinds) (λ id at bytes b. of-file file kinds id at bytes (subst (λ (k : List Kind). IsBadBlock file k id at bytes) same b)) h

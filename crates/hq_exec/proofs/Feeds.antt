@@ -1,16 +1,22 @@
 -- Rows that are read and pushed, one part after another.
-use Rattle.std.proofs.Common.{◌≡◌, ◌∙◌, ℕ, zero, suc, ◌+◌, ◌-◌, ◌^◌, ◌<◌, ◌≤◌, ◌==◌, min, Bool, true, false, cond, List, [], ◌∷◌, ◌++◌, map, append_assoc, append-nil, Option, Some, None, Ok, Err, Result, IsTrue, refl, sym, ap, subst, arith}
-use Rattle.std.specs.Prelude.{flat_map, sum_by, filter}
+use Rattle.std.proofs.Common.{◌≡◌, ◌∙◌, ℕ, zero, suc, ◌+◌, ◌-◌, ◌^◌, ◌<◌, ◌≤◌, ◌==◌, min, Bool, true, false, cond, List, [], ◌∷◌, ◌++◌, length, take, drop, map, append_assoc, append-nil, Option, Some, None, Ok, Err, Result, IsTrue, refl, sym, ap, subst, arith}
+use Rattle.std.specs.Prelude.{flat_map, sum_by, filter, All}
 use Rattle.std.specs.List.{AllByRecursion, range_with_len}
+use Rattle.std.specs.Prelude.{slice_range}
+use Rattle.std.proofs.Math.Seq.{take-add}
 use Rattle.std.proofs.lemmas.Grind.{flat_map-append}
+use Rattle.std.proofs.lemmas.List.{take-append-drop, take_all}
 use Rattle.std.proofs.lemmas.List.Sums.{sum_by-cons, sum_by-append}
 use Rattle.hq_value.specs.declared.value.Value.{Value}
 use Rattle.hq_value.specs.declared.kind.Kind.{Kind}
 use Rattle.hq_value.specs.Causes.{GoesOnGiving}
 use Rattle.hq_value.specs.Kinds.{Fits}
 use Rattle.hq_value.proofs.Counting.{giving_more}
+use Rattle.hq_block.specs.declared.head.BlockHead.{BlockHead}
 use Rattle.hq_block.specs.declared.skip.ColumnTest.{ColumnTest}
+use Rattle.hq_block.specs.Skipping.{read_length}
 use Rattle.hq_fits.specs.Supplied.{AreFit}
+use Rattle.hq_lane.specs.Cursors.{CursorState, HasPassed}
 use Rattle.hq_lane.specs.FileBlocks.{kept_rows, read_sum}
 use Rattle.hq_meaning.specs.Rows.{Row}
 use Rattle.hq_store.specs.FileStep.{SealState}
@@ -19,7 +25,7 @@ use Rattle.hq_exec.specs.Files.{HeldState, given_files, buckets_files}
 use Rattle.hq_exec.specs.Lines.{LineState, HasRun, HasGiven, Takes, CanTake}
 use Rattle.hq_exec.specs.Outs.{OutState}
 use Rattle.hq_exec.proofs.Adding.{adds-none, adds-both}
-use Rattle.hq_exec.proofs.Rows.{joined-parts}
+use Rattle.hq_exec.proofs.Rows.{both-parts, joined-parts, each-of}
 
 -- no rows
 pub takes-none : (kinds : List Kind) (line : LineState) → Takes kinds [] line line
@@ -40,6 +46,26 @@ takes-more kinds first next a b c f g = λ out ss pushed put run.
           (subst (λ (l : List Row). HasRun kinds out ss ((pushed ++ first) ++ next) l c.failed c.pipes) (append_assoc put one.added two.added) two.run);
       given = adds-both one.added two.added a.out b.out c.out one.given two.given;
     }
+
+-- rows up to a place, and those from there to another
+up-to : (rows : List Row) (at end : ℕ) → at ≤ end → take end rows ≡ take at rows ++ slice_range rows at end
+up-to rows at end low = let e : end ≡ at + (end - at) = omega arith in ap (λ n. take n rows) e ∙ take-add at (end - at) rows
+
+pub some-fit : (kinds : List Kind) (rows : List Row) (at end : ℕ) → at ≤ end → AreFit kinds rows → AreFit kinds (slice_range rows at end)
+some-fit kinds rows at end low fit =
+    let whole : AreFit kinds (take end rows ++ drop end rows) = subst (λ (l : List Row). AreFit kinds l) (sym (take-append-drop end rows)) fit in
+    let front : AreFit kinds (take at rows ++ slice_range rows at end) = subst (λ (l : List Row). AreFit kinds l) (up-to rows at end low) (both-parts (Fits kinds) (take end rows) (drop end rows) whole).0 in
+    (both-parts (Fits kinds) (take at rows) (slice_range rows at end) front).1
+
+pub batch-fits : (kinds : List Kind) (rows batch : List Row) (at end : ℕ) → batch ≡ slice_range rows at end → AreFit kinds rows → at ≤ end → AreFit kinds batch
+batch-fits kinds rows batch at end is fit low = subst (λ (l : List Row). AreFit kinds l) (sym is) (some-fit kinds rows at end low fit)
+
+pub takes-range : (kinds : List Kind) (rows batch : List Row) (at end : ℕ) (x y z : LineState) → batch ≡ slice_range rows at end → Takes kinds (take at rows) x y → Takes kinds batch y z → at ≤ end → Takes kinds (take end rows) x z
+takes-range kinds rows batch at end x y z is f g low =
+    subst (λ (l : List Row). Takes kinds l x z) (sym (up-to rows at end low)) (takes-more kinds (take at rows) (slice_range rows at end) x y z f (subst (λ (l : List Row). Takes kinds l y z) is g))
+
+pub takes-whole : (kinds : List Kind) (rows : List Row) (at : ℕ) (x y : LineState) → Takes kinds (take at rows) x y → length rows ≤ at → Takes kinds rows x y
+takes-whole kinds rows at x y f past = subst (λ (l : List Row). Takes kinds l x y) (take_all at rows past) f
 
 module _ {S : Type 0} (faults given : S → ℕ) (sound : S → Type 0) (told : Type 0) (kinds : List Kind) where
   pub given-none : (a : S) → given a < 2 ^ 64 → GoesOnGiving faults given sound 0 a a
@@ -155,3 +181,63 @@ module _ {S : Type 0} (faults given : S → ℕ) (sound : S → Type 0) (told : 
 -- the files of the buckets from one on
 pub more-buckets : (lanes : List (List (Option SealState))) (h : HeldState) (t n : ℕ) → n < 16 → buckets_files lanes h t n ≡ given_files lanes h t n ++ buckets_files lanes h t (n + 1)
 more-buckets lanes h t n low = let e : 16 - n ≡ suc (16 - (n + 1)) = omega arith in ap (λ k. flat_map (given_files lanes h t) (range_with_len n k)) e
+
+-- the rows that a cursor adds fit its kinds
+pub passed-fit : (init cur next : CursorState) (head : BlockHead) (old rows : List Row) → cur ≡ record init { at = cur.at; left = cur.left } → old ≡ [] → HasPassed cur next head old rows → AreFit init.kinds rows
+passed-fit init cur next head old rows same none passed =
+    subst (λ (l : List Row). AreFit init.kinds l) (sym (passed.added ∙ ap (λ (l : List Row). l ++ passed.found) none))
+    (each-of (Fits init.kinds) passed.found (subst (λ (k : List Kind). All (Fits k) passed.found) (ap (λ (s : CursorState). s.kinds) same) passed.fit))
+
+-- the blocks that a cursor passes
+module _ {S : Type 0} (faults given : S → ℕ) (sound : S → Type 0) (init : CursorState) where
+  -- what a cursor passed that stands before these bytes
+  abbrev pub FedTo : List ℕ → S → S → LineState → LineState → Type 0
+  FedTo left a b x y = Fed faults given sound (IsTrue init.told) init.kinds (kept_rows init.tests init.kinds init.left) (kept_rows init.tests init.kinds left) (read_sum init.tests init.kinds init.left) (read_sum init.tests init.kinds left) a b x y
+
+  -- a block more
+  pub fed-block : (cur next : CursorState) (head : BlockHead) (old rows : List Row) (a b c : S) (x y z : LineState) → cur ≡ record init { at = cur.at; left = cur.left } → old ≡ [] → HasPassed cur next head old rows
+      → GoesOnGiving faults given sound (read_length cur.tests head) b c → ((kinds : List Kind) → AreFit kinds rows → Takes kinds rows y z) → ((kinds : List Kind) → AreFit kinds rows → CanTake kinds y → CanTake kinds z)
+      → FedTo cur.left a b x y → FedTo next.left a c x z
+  fed-block cur next head old rows a b c x y z same none passed gave takes can fed =
+      fed-step faults given sound (IsTrue init.told) init.kinds (kept_rows init.tests init.kinds init.left) (kept_rows init.tests init.kinds cur.left) rows (kept_rows init.tests init.kinds next.left)
+      (read_sum init.tests init.kinds init.left) (read_sum init.tests init.kinds cur.left) (read_length cur.tests head) (read_sum init.tests init.kinds next.left) a b c x y z fed piece goes reads
+    where
+      told-is : cur.told ≡ init.told
+      told-is = ap (λ (s : CursorState). s.told) same
+
+      kinds-is : cur.kinds ≡ init.kinds
+      kinds-is = ap (λ (s : CursorState). s.kinds) same
+
+      tests-is : cur.tests ≡ init.tests
+      tests-is = ap (λ (s : CursorState). s.tests) same
+
+      rows-are : rows ≡ passed.found
+      rows-are = passed.added ∙ ap (λ l. l ++ passed.found) none
+
+      told-now : IsTrue init.told → IsTrue cur.told
+      told-now t = told-is ∙ t
+
+      fit : AreFit init.kinds rows
+      fit = passed-fit init cur next head old rows same none passed
+
+      piece : Fed faults given sound (IsTrue init.told) init.kinds rows [] (read_length cur.tests head) 0 b c y z
+      piece = record {
+        rows = rows;
+        gave = read_length cur.tests head;
+        fit = fit;
+        rows_are = λ t. sym (append-nil rows);
+        reads_are = λ t. omega arith;
+        goes_on = λ low. gave;
+        takes = takes init.kinds fit;
+        can_take = can init.kinds fit fed.can_take;
+      }
+
+      goes : IsTrue init.told → kept_rows init.tests init.kinds cur.left ≡ rows ++ kept_rows init.tests init.kinds next.left
+      goes t = sym (λ i. kept_rows (tests-is i) (kinds-is i) cur.left) ∙ passed.rows (told-now t) ∙ (λ i. sym rows-are i ++ kept_rows (tests-is i) (kinds-is i) next.left)
+
+      reads : IsTrue init.told → read_sum init.tests init.kinds cur.left ≡ read_length cur.tests head + read_sum init.tests init.kinds next.left
+      reads t = sym (λ i. read_sum (tests-is i) (kinds-is i) cur.left) ∙ passed.reads (told-now t) ∙ (λ i. read_length cur.tests head + read_sum (tests-is i) (kinds-is i) next.left)
+
+  -- no block is left
+  pub fed-end : (left : List ℕ) (a b : S) (x y : LineState) → left ≡ [] → FedTo left a b x y → Fed faults given sound (IsTrue init.told) init.kinds (kept_rows init.tests init.kinds init.left) [] (read_sum init.tests init.kinds init.left) 0 a b x y
+  fed-end left a b x y none fed = subst (λ (l : List ℕ). FedTo l a b x y) none fed

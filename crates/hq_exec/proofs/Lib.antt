@@ -2,12 +2,14 @@ pub mod Adding
 pub mod Running
 pub mod Rows
 pub mod Feeds
+pub mod Buckets
 pub mod Carrying
 pub mod Meaning
 pub mod Leaves
 pub mod Passed
 pub mod Whole
 pub mod Runs
+pub mod Flows
 pub mod Bad
 pub mod Examples
 pub mod Roots

@@ -13,10 +13,14 @@ use Rattle.hq_algebra.specs.Operators.{op_kinds}
 use Rattle.hq_algebra.specs.Plans.{operators, op_is_fine, are_bounded, filters_without_arith, is_writable, slice_is_fine, ends_with_result, are_well_formed, is_well_formed}
 use Rattle.hq_planwire.specs.Wire.{IsPlan}
 use Rattle.hq_planwire.proofs.PlanCodecs.{one_plan}
+use Rattle.hq_fits.specs.Supplied.{AreFit}
 use Rattle.hq_meaning.specs.Rows.{Row}
 use Rattle.hq_exec.specs.declared.end.Ending.{Ending}
 use Rattle.hq_exec.specs.declared.end.Ending.TheVariants as ending
-use Rattle.hq_exec.specs.Ends.{IfBadBlock, IfDone, OnRead, IsNumericAt, IfBad, OnStore, OnHost, OffHost, end_of}
+use Rattle.hq_exec.specs.declared.end.FlowEnd.{FlowEnd}
+use Rattle.hq_exec.specs.declared.end.SliceEnd.{SliceEnd}
+use Rattle.hq_exec.specs.declared.end.SliceEnd.TheVariants as slice
+use Rattle.hq_exec.specs.Ends.{IfBadBlock, IfDone, OnRead, IsNumericAt, IfBad, OnStore, OnHost, OffHost, IfRows, IsBadIn, end_of, as_flow}
 use Rattle.hq_exec.specs.Files.{HeldState}
 use Rattle.hq_exec.specs.Outs.{OutState}
 use Rattle.hq_exec.specs.Ran.{HasRead, HasPut, Flowed}
@@ -144,3 +148,57 @@ ends-no-host (Ok true) P = tt
 ends-no-host (Err ending.Store) P = tt
 ends-no-host (Err (ending.BadBlock file at bytes)) P = tt
 ends-no-host (Err ending.NoMemory) P = tt
+
+-- what holds of the root holds of each operator that the plan has there
+module _ (bytes : List ℕ) (i : ℕ) (root : Op) (mine : IsSliceOf bytes i root) where
+  pub root-flowed : {S : Type 0} (faulting given : S → ℕ) (sound : S → Type 0) (told : Type 0) (h : HeldState) (r : Result Bool Ending) (a b : S) (before after : OutState) → IfFlowed faulting given sound told h root a b before after r
+      → (other : Op) → IsSliceOf bytes i other → IfFlowed faulting given sound told h other a b before after r
+  root-flowed faulting given sound told h r a b before after flowed other also = subst (λ (o : Op). IfFlowed faulting given sound told h o a b before after r) (one-root bytes i root other mine also) flowed
+
+  pub root-bad : (r : Result Bool Ending) (buckets : List ℕ) → IfBadBlock r (IsBadIn root buckets) → (other : Op) → IsSliceOf bytes i other → IfBadBlock r (IsBadIn other buckets)
+  root-bad r buckets bad other also = subst (λ (o : Op). IfBadBlock r (IsBadIn o buckets)) (one-root bytes i root other mine also) bad
+
+-- how a slice ends whose reading ended so
+module _ (r : Result Bool Ending) (end : FlowEnd) (is : end ≡ end_of r) where
+  module _ {S : Type 0} (faulting given : S → ℕ) (sound : S → Type 0) (told : Type 0) (h : HeldState) (o : Op) (a b : S) (before after : OutState) (flowed : IfFlowed faulting given sound told h o a b before after r) where
+    pub slice-put : IfDone end (HasPut told o (slice_rows h o) before after)
+    slice-put = subst (λ (e : FlowEnd). IfDone e (HasPut told o (slice_rows h o) before after)) (sym is) (ends-done faulting given sound told h o a b before after r flowed)
+
+    pub slice-numeric : told → IsNumericAt end (slice_fault h o)
+    slice-numeric t = subst (λ (e : FlowEnd). IsNumericAt e (slice_fault h o)) (sym is) (ends-numeric faulting given sound told h o a b before after r flowed t)
+
+    pub slice-read : given a < 2 ^ 64 → told → OnRead end (GoesOnGiving faulting given sound (slice_reads h o) a b)
+    slice-read low t = subst (λ (e : FlowEnd). OnRead e (GoesOnGiving faulting given sound (slice_reads h o) a b)) (sym is) (ends-read faulting given sound told h o a b before after r flowed t low)
+
+  pub slice-bad : (P : FileId → ℕ → List ℕ → Type 0) → IfBadBlock r P → IfBad end P
+  slice-bad P bad = subst (λ (e : FlowEnd). IfBad e P) (sym is) (ends-bad r P bad)
+
+  pub slice-store : (P : Type 0) → (IsErrOf r ending.Store → P) → OnStore end P
+  slice-store P h = subst (λ (e : FlowEnd). OnStore e P) (sym is) (ends-store r P h)
+
+  pub slice-off : (P : Type 0) → P → OffHost end P
+  slice-off P h = subst (λ (e : FlowEnd). OffHost e P) (sym is) (ends-off r P h)
+
+  pub slice-no-host : (P : Type 0) → OnHost end P
+  slice-no-host P = subst (λ (e : FlowEnd). OnHost e P) (sym is) (ends-no-host r P)
+
+-- a slice whose rows are put into a list
+pub list-rows : (told : Type 0) (o : Op) (all rows : List Row) (before after : OutState) (r : SliceEnd) (end : FlowEnd) → as_flow r ≡ end → IfRows r (λ found. found ≡ rows) → IfDone end (HasPut told o all before after) → before.holds []
+    → ((l : List Row) → after.holds l → rows ≡ l) → told → IfRows r (λ found. found ≡ all)
+list-rows told o all rows before after (slice.Rows v) end is found put none listed t =
+    let p : HasPut told o all before after = subst (λ (e : FlowEnd). IfDone e (HasPut told o all before after)) (sym is) put in found ∙ listed p.added (p.given [] none) ∙ p.are t
+list-rows told o all rows before after slice.Numeric end is found put none listed t = tt
+list-rows told o all rows before after slice.Store end is found put none listed t = tt
+list-rows told o all rows before after slice.Host end is found put none listed t = tt
+list-rows told o all rows before after (slice.BadBlock file at bytes) end is found put none listed t = tt
+list-rows told o all rows before after slice.NoMemory end is found put none listed t = tt
+
+pub list-fit : (told : Type 0) (o : Op) (all rows : List Row) (before after : OutState) (r : SliceEnd) (end : FlowEnd) → as_flow r ≡ end → IfRows r (λ found. found ≡ rows) → IfDone end (HasPut told o all before after) → before.holds []
+    → ((l : List Row) → after.holds l → rows ≡ l) → (kinds : List Kind) → op_kinds o ≡ Some kinds → IfRows r (AreFit kinds)
+list-fit told o all rows before after (slice.Rows v) end is found put none listed kinds typed =
+    let p : HasPut told o all before after = subst (λ (e : FlowEnd). IfDone e (HasPut told o all before after)) (sym is) put in subst (λ (l : List Row). AreFit kinds l) (sym (found ∙ listed p.added (p.given [] none))) (p.fit kinds typed)
+list-fit told o all rows before after slice.Numeric end is found put none listed kinds typed = tt
+list-fit told o all rows before after slice.Store end is found put none listed kinds typed = tt
+list-fit told o all rows before after slice.Host end is found put none listed kinds typed = tt
+list-fit told o all rows before after (slice.BadBlock file at bytes) end is found put none listed kinds typed = tt
+list-fit told o all rows before after slice.NoMemory end is found put none listed kinds typed = tt

@@ -7,14 +7,15 @@ use Rattle.hq_algebra.specs.Operators.{op_kinds}
 use Rattle.hq_fits.specs.Supplied.{AreFit}
 use Rattle.hq_meaning.specs.Rows.{Row}
 use Rattle.hq_ops.specs.declared.pipe.Pipe.{Pipe}
-use Rattle.hq_exec.specs.Builds.{BuildsFit, leaf_kinds, leaf_kept, leaf_reads}
+use Rattle.hq_algebra.specs.declared.expr.Expr.{Expr}
+use Rattle.hq_exec.specs.Builds.{BuildsFit, kinds_at, kept_at, reads_at, leaf_kinds, leaf_kept, leaf_reads}
 use Rattle.hq_exec.specs.Feeding.{Fed}
 use Rattle.hq_exec.specs.Files.{HeldState}
 use Rattle.hq_exec.specs.Lines.{LineState, HasFlowed, HasRun, IsReady, CanTake, HasGiven, HasEnded, Finishes}
 use Rattle.hq_exec.specs.Outs.{OutState, Accepts}
 use Rattle.hq_exec.proofs.Adding.{adds-both}
 use Rattle.hq_exec.specs.Ran.{HasRead, HasPut, Ran}
-use Rattle.hq_exec.specs.Stages.{Stage, flowed, faulted, stages_of}
+use Rattle.hq_exec.specs.Stages.{Stage, flowed, faulted, stages_of, leaf_of, above_of}
 use Rattle.hq_exec.proofs.Carrying.{carries}
 
 -- the pipes before any row
@@ -39,6 +40,13 @@ module _ {S : Type 0} (faulting given : S → ℕ) (sound : S → Type 0) (told 
     where
       by : total ≡ f.gave + 0 → f.gave ≡ total
       by e = omega arith
+
+  -- what was read of the leaf
+  pub fed-leaf : (leaf : Op) (above : Option Expr) (a b : S) (x y : LineState) → leaf ≡ leaf_of o → above ≡ above_of o None
+      → Fed faulting given sound told (kinds_at leaf) (kept_at leaf above h) [] (reads_at leaf above h) 0 a b x y → Fed faulting given sound told (leaf_kinds o) (leaf_kept o None h) [] (leaf_reads o None h) 0 a b x y
+  fed-leaf leaf above a b x y e f fed =
+      subst (λ (l : Op). Fed faulting given sound told (kinds_at l) (kept_at l (above_of o None) h) [] (reads_at l (above_of o None) h) 0 a b x y) e
+      (subst (λ (v : Option Expr). Fed faulting given sound told (kinds_at leaf) (kept_at leaf v h) [] (reads_at leaf v h) 0 a b x y) f fed)
 
   pub ran-of : (failed fault : Bool) (kinds : List Kind) (pipes : List Pipe) (a b : S) (before : OutState) (line : LineState) (after : OutState) → op_kinds o ≡ Some kinds → (failed ≡ false → BuildsFit o builds) → HasFlowed (stages_of o builds) pipes [] []
       → Fed faulting given sound told (leaf_kinds o) (leaf_kept o None h) [] (leaf_reads o None h) 0 a b (record { failed = failed; pipes = pipes; out = before }) line
@@ -75,3 +83,7 @@ module _ {S : Type 0} (faulting given : S → ℕ) (sound : S → Type 0) (told 
         fit = λ ks is. let same : kinds ≡ ks = cc in subst (λ (k : List Kind). AreFit k (gave.added ++ e.added)) same e.fit;
         are = λ t. e.all ∙ ap (flowed (stages_of o builds)) (sym (fed.rows_are t ∙ append-nil fed.rows));
       }
+
+  -- it faulted before or now
+  pub ran-either : (failed fault either : Bool) (a b : S) (before after : OutState) → either ≡ (failed || fault) → Ran faulting given sound told h o builds failed (failed || fault) a b before after → Ran faulting given sound told h o builds failed either a b before after
+  ran-either failed fault either a b before after is ran = subst (λ (q : Bool). Ran faulting given sound told h o builds failed q a b before after) (sym is) ran

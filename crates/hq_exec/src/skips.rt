@@ -1,7 +1,7 @@
 //! The tests by which a Scan skips blocks.
-ghost use Rattle.std.specs.Prelude.{◌≡◌, ◌++◌, slice_get, IfOk, OnOk};
+ghost use Rattle.std.specs.Prelude.{◌≡◌, ◌++◌, slice_get, option_map, IfOk, OnOk};
 ghost use Rattle.hq_algebra.specs.Steps.{is_null};
-ghost use Rattle.hq_exec.specs.Skips.{test_on, tests_in};
+ghost use Rattle.hq_exec.specs.Skips.{test_on, tests_in, tests_under};
 ghost use Rattle.hq_laws.specs.Sources.{column_of, literal_of};
 ghost use Rattle.hq_laws.specs.Tests as spec;
 
@@ -10,9 +10,22 @@ use hq_block::ColumnTest;
 use hq_value::{Kind, NoMemory, Value};
 use std::alloc::Global;
 
-/// The tests among the parts of a condition: the comparisons of a column of kind Bool or Int with a value that is not
-/// NULL. The call is nested at most as deep as the condition.
-pub fn tests_in(alloc: Global, kinds: &[Kind], cond: &Expr) -> Result<Vec<ColumnTest>, NoMemory>
+/// The tests among the parts of the condition of the Filter directly above a Scan: the comparisons of a column of kind
+/// Bool or Int with a value that is not NULL. The call is nested at most as deep as the condition.
+pub fn tests_under(
+    alloc: Global,
+    kinds: &[Kind],
+    above: Option<&Expr>,
+) -> Result<Vec<ColumnTest>, NoMemory>
+    ensures { IfOk result (λ tests. tests.items ≡ tests_under kinds.now (option_map (λ e. e.now) above.entry)) }
+{
+    match above {
+        None => Ok(Vec::new(alloc)),
+        Some(cond) => tests_in(alloc, kinds, cond),
+    }
+}
+
+fn tests_in(alloc: Global, kinds: &[Kind], cond: &Expr) -> Result<Vec<ColumnTest>, NoMemory>
     ensures { IfOk result (λ tests. tests.items ≡ tests_in kinds.now cond.now) }
 {
     let mut tests = Vec::new(alloc);
