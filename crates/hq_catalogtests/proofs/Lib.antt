@@ -1,0 +1,7 @@
+pub mod Answered
+pub mod Appended
+pub mod Kept
+pub mod Looking
+pub mod Places
+pub mod Worked
+pub mod Worlds
