@@ -11,18 +11,22 @@
 //!
 //! `hq_bench operators join|group|sort ROWS` runs an operator over so many rows, and shows how many rows it gave and the
 //! processor time that it took.
+//!
+//! `hq_bench motions split|write|read ROWS ROUNDS` shares out so many rows of one INT over four nodes, or puts them into
+//! bytes, or reads them from bytes, so often, and shows how many rows this were and the processor time that it took.
 #![tactic(auto)]
 
 mod blocks;
+mod motions;
 mod operators;
 mod parses;
 mod table;
 
 use blocks::Blocks;
-use operators::Operators;
+use motions::Motions;
+use operators::{Operators, Timed};
 use parses::Parses;
 use std::process::ExitCode;
-use std::time::CpuClock;
 use std::{env, io};
 use table::Scans;
 
@@ -43,12 +47,16 @@ fn main(rt: HostRuntime) -> io::Result<ExitCode> {
         return time_parse(&rt, &parses);
     }
     if let Some(operators) = Operators::asked(&words) {
-        return time_operators(&rt, operators);
+        return show_timed(&rt, operators.run(&rt, rt.alloc()));
+    }
+    if let Some(motions) = Motions::asked(&words) {
+        return show_timed(&rt, motions.run(&rt, rt.alloc()));
     }
     eprintln!(rt; "usage: hq_bench blocks int|text ROWS WRITES READS")?;
     eprintln!(rt; "       hq_bench table ROWS AT_ONCE SCANS")?;
     eprintln!(rt; "       hq_bench parse ints|texts|select PARTS TIMES")?;
     eprintln!(rt; "       hq_bench operators join|group|sort ROWS")?;
+    eprintln!(rt; "       hq_bench motions split|write|read ROWS ROUNDS")?;
     Ok(ExitCode::from(2))
 }
 
@@ -85,11 +93,8 @@ fn time_parse(rt: &(impl Print + AllocGlobal), parses: &Parses) -> io::Result<Ex
     }
 }
 
-fn time_operators(
-    rt: &(impl Print + AllocGlobal + CpuClock),
-    operators: Operators,
-) -> io::Result<ExitCode> {
-    match operators.run(rt, rt.alloc()) {
+fn show_timed(rt: &impl Print, timed: Option<Timed>) -> io::Result<ExitCode> {
+    match timed {
         Some(done) => {
             println!(rt;
                 "{} rows in {} microseconds",

@@ -7,7 +7,7 @@ use Rattle.hq_value.specs.Kinds.{kinds_of}
 use Rattle.hq_value.specs.Tables.{Definition, IsDefinition}
 use Rattle.hq_algebra.specs.declared.expr.Expr.TheBlock.{hidden-the_row-Expr-0}
 use denote.Hole.Carrier.{hidden}
-use Rattle.hq_planner.specs.Tables.{Defs, kinds_by}
+use Rattle.hq_whole.specs.Tables.{Defs, kinds_by}
 use Rattle.hq_executiontests.specs.declared.queries.Parts.{Parts}
 use Rattle.hq_executiontests.specs.Rules.{KeepsRules, fits}
 use Rattle.hq_executiontests.specs.Worked.{AreWorked, met, met_by_keys, few_met, chained, sold}

@@ -1,6 +1,6 @@
 //! The plans of the worked queries.
 ghost use Rattle.std.specs.Prelude.{IsTrue};
-ghost use Rattle.hq_planner.specs.Tables.{kinds_by};
+ghost use Rattle.hq_whole.specs.Tables.{kinds_by};
 ghost use Rattle.hq_executiontests.specs.Worked.{AreWorked};
 ghost use Rattle.hq_executiontests.specs.Rules.{KeepsRules, fits};
 

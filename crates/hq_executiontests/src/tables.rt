@@ -2,7 +2,7 @@
 ghost use Rattle.std.specs.Prelude.{◌≡◌, ◌∷◌, [], false, IfOk};
 ghost use Rattle.hq_value.specs.Kinds.{kinds_of};
 ghost use Rattle.hq_value.specs.declared.kind.Kind.TheVariants as kinds;
-ghost use Rattle.hq_planner.specs.Tables.{kinds_by};
+ghost use Rattle.hq_whole.specs.Tables.{kinds_by};
 ghost use Rattle.hq_executiontests.specs.Worked.{AreWorked};
 
 use hq_value::{Column, Columns, Keys, Kind, Name, NoMemory, TableDef};

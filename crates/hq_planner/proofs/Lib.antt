@@ -1,8 +1,5 @@
-pub mod Building
-pub mod Conjoining
+pub mod Marked
+pub mod Narrowed
 pub mod Nodes
-pub mod Numbers
-pub mod Plans
-pub mod Reordering
-pub mod Results
-pub mod Stepping
+pub mod Parts
+pub mod Taken

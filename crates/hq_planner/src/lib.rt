@@ -1,21 +1,16 @@
-//! Plans of bound queries.
+//! Plans of bound queries, in which only the columns that a query names travel.
 #![tactic(auto)]
 
-mod checking;
-mod choosing;
-mod gathering;
-mod homes;
+mod fitting;
+mod keeping;
 mod making;
-mod ordering;
+mod marking;
+mod narrowing;
+mod not_narrowed;
+mod part;
 mod planning;
 mod renaming;
-mod sent;
-mod source;
-mod spreading;
-mod stages;
-mod step;
-mod steps;
-mod tables;
-mod turn;
+mod taking;
+mod widening;
 
 pub use planning::plan;

@@ -1,5 +1,0 @@
-use Rattle.hq_algebra.specs.declared.op.Op.TheVariants as op
-use Rattle.hq_planner.proofs.gathering.received.Goals as goal
-
-pub returns : goal.returns
-returns c = λ i. op.Receive c.args.slice (c.in_ok-kinds.ensures i)

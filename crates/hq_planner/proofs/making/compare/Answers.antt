@@ -1,5 +1,0 @@
-use Rattle.hq_algebra.specs.declared.expr.Expr.TheVariants as e
-use Rattle.hq_planner.proofs.making.compare.Goals as goal
-
-pub returns : goal.returns
-returns c = λ i. e.Compare c.args.kind (c.in_ok-left.ensures i) (c.in_ok-right.ensures i)

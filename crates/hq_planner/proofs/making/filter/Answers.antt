@@ -1,5 +1,0 @@
-use Rattle.hq_algebra.specs.declared.op.Op.TheVariants as op
-use Rattle.hq_planner.proofs.making.filter.Goals as goal
-
-pub returns : goal.returns
-returns c = λ i. op.Filter c.args.cond (c.in_ok-input.ensures i)

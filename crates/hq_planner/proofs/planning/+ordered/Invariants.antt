@@ -1,5 +1,0 @@
-use Rattle.std.proofs.Common.{◌-◌}
-use Rattle.hq_planner.proofs.planning.+ordered.Given as goal
-
-abbrev pub decreases-ordered : goal.decreases-ordered
-decreases-ordered l = 8 - l.at

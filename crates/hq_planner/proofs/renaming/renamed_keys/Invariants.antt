@@ -1,6 +1,0 @@
-use Rattle.std.proofs.Common.{◌≡◌, map, take}
-use Rattle.hq_planner.specs.Places.{place_of}
-use Rattle.hq_planner.proofs.renaming.renamed_keys.Given as goal
-
-abbrev pub invariant-loop-key : goal.invariant-loop-key
-invariant-loop-key l = l.new ≡ map (place_of l.to) (take l.key-index l.keys)

@@ -1,6 +1,0 @@
-use Rattle.std.proofs.Common.{◌≡◌, take, flat_map}
-use Rattle.hq_planner.specs.Tables.{kinds_by}
-use Rattle.hq_planner.proofs.sent.product_kinds.Given as goal
-
-abbrev pub invariant-loop-table : goal.invariant-loop-table
-invariant-loop-table l = l.all.items ≡ flat_map (kinds_by l.defs) (take l.table-index l.sources)
