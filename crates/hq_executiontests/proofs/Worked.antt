@@ -10,7 +10,7 @@ use denote.Hole.Carrier.{hidden}
 use Rattle.hq_whole.specs.Tables.{Defs, kinds_by}
 use Rattle.hq_executiontests.specs.declared.queries.Parts.{Parts}
 use Rattle.hq_executiontests.specs.Rules.{KeepsRules, fits}
-use Rattle.hq_executiontests.specs.Worked.{AreWorked, met, met_by_keys, few_met, chained, sold}
+use Rattle.hq_executiontests.specs.Worked.{AreWorked, met, met_by_keys, few_met, in_city, chained, sold}
 
 pub worked_tables : (defs : Defs) (u v shop sale : Definition) → defs ≡ (0, u) ∷ (1, v) ∷ (2, shop) ∷ (3, sale) ∷ []
     → kinds_of u.columns ≡ kind.Int ∷ kind.Int ∷ [] → kinds_of v.columns ≡ kind.Int ∷ kind.Int ∷ [] → kinds_of shop.columns ≡ kind.Int ∷ kind.Text ∷ [] → kinds_of sale.columns ≡ kind.Int ∷ kind.Int ∷ kind.Int ∷ []
@@ -106,6 +106,32 @@ few_met_bound kinds w = (λ i. fits (four (w.u i) (w.v i) (w.shop i) (w.sale i))
 
 pub few_met_fits : (kinds : ℕ → List Kind) (p : Parts) → AreWorked kinds → p ≡ few_met → fits kinds p ≡ true
 few_met_fits kinds p w e = (λ i. fits kinds (e i)) ∙ few_met_bound kinds w
+
+in_city_rules : (city : List ℕ) → KeepsRules (in_city city)
+unfolding hidden-the_row-Expr-0 hidden
+in_city_rules city = record {
+  some_sources = omega arith;
+  few_sources = omega arith;
+  some_items = omega arith;
+  few_items = omega arith;
+  conds_fault_never = refl;
+  having_faults_never = refl;
+  small = refl;
+  plain = refl;
+  counts_of_one = refl;
+  group_columns = refl;
+  order_columns = refl;
+}
+
+pub in_city_keeps : (p : Parts) (city : List ℕ) → p ≡ in_city city → KeepsRules p
+in_city_keeps p city e = subst KeepsRules (sym e) (in_city_rules city)
+
+in_city_bound : (kinds : ℕ → List Kind) (city : List ℕ) → AreWorked kinds → fits kinds (in_city city) ≡ true
+unfolding four hidden-the_row-Expr-0 hidden
+in_city_bound kinds city w = (λ i. fits (four (w.u i) (w.v i) (w.shop i) (w.sale i)) (in_city city)) ∙ refl
+
+pub in_city_fits : (kinds : ℕ → List Kind) (p : Parts) (city : List ℕ) → AreWorked kinds → p ≡ in_city city → fits kinds p ≡ true
+in_city_fits kinds p city w e = (λ i. fits kinds (e i)) ∙ in_city_bound kinds city w
 
 chained_rules : KeepsRules chained
 unfolding hidden-the_row-Expr-0 hidden

@@ -43,6 +43,10 @@ met_by_keys = ungrouped (0 ∷ 1 ∷ []) (equal 0 2 ∷ []) (e.Column 1 ∷ e.Co
 abbrev pub few_met : Parts
 few_met = ungrouped (0 ∷ 1 ∷ []) (equal 1 3 ∷ e.Compare compare.Less (e.Column 2) (e.Literal (value.Int (pos 5))) ∷ []) (e.Column 0 ∷ e.Column 2 ∷ [])
 
+-- SELECT x.amount FROM sale x JOIN shop s ON x.shop = s.id WHERE s.city = city
+abbrev pub in_city : List ℕ → Parts
+in_city city = ungrouped (3 ∷ 2 ∷ []) (equal 0 3 ∷ e.Compare compare.Equal (e.Column 4) (e.Literal (value.Text city)) ∷ []) (e.Column 2 ∷ [])
+
 -- SELECT u.id, x.amount FROM u, sale x, v WHERE u.g = v.k AND v.g = x.shop
 abbrev pub chained : Parts
 chained = ungrouped (0 ∷ 3 ∷ 1 ∷ []) (equal 1 5 ∷ equal 6 2 ∷ []) (e.Column 0 ∷ e.Column 4 ∷ [])

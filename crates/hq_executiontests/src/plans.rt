@@ -8,7 +8,7 @@ use crate::queries::{self, Parts, query_of};
 use crate::show::show_plan;
 use crate::tables::tables;
 use hq_planner::plan;
-use hq_value::TableDef;
+use hq_value::{Chars, TableDef};
 use std::test::Fail;
 
 // Shows the plan of a query, where the tables have these sizes.
@@ -62,6 +62,20 @@ fn few_met(
     show(rt, name, parts, defs, sizes)
 }
 
+#[tactic(auto, using(crate::proofs::Worked::in_city_keeps, crate::proofs::Worked::in_city_fits))]
+fn in_city(
+    rt: HostRuntime,
+    name: &str,
+    defs: &[(u32, TableDef)],
+    sizes: &[u128],
+) -> Result<(), Fail>
+    requires { AreWorked (kinds_by defs.now) }
+{
+    let city = Chars::from_str(rt.alloc(), "x")?;
+    let parts = queries::in_city(rt.alloc(), city)?;
+    show(rt, name, parts, defs, sizes)
+}
+
 #[tactic(auto, using(crate::proofs::Worked::chained_keeps, crate::proofs::Worked::chained_fits))]
 fn chained(
     rt: HostRuntime,
@@ -110,6 +124,12 @@ pub fn run(rt: HostRuntime) -> Result<(), Fail> {
         "a condition on one table stands below the motion",
         defs,
         &[3, 3, 3, 4],
+    )?;
+    in_city(
+        rt,
+        "so does a condition on a text of one table, by which no block is skipped",
+        defs,
+        &[3, 3, 3, 1000],
     )?;
     chained(
         rt,

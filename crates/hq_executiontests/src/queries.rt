@@ -8,7 +8,7 @@ ghost use Rattle.hq_executiontests.specs.Rules.{KeepsRules, fits};
 use hq_algebra::{
     Aggregate, Aggregates, CompareKind, Expr, Exprs, Keys16, Query, SortKey, SortKeys, Tables32,
 };
-use hq_value::{NoMemory, Sequence, Value};
+use hq_value::{Chars, NoMemory, Sequence, Value};
 use sqlite_items::Boxed;
 use std::alloc::Global;
 
@@ -143,6 +143,23 @@ pub fn few_met(alloc: Global) -> Result<Parts, NoMemory>
     let test = compare(alloc, CompareKind::Less, 2, Expr::Literal(Value::Int(5)))?;
     let conds = two(alloc, link, test)?;
     let items = two(alloc, Expr::Column(0), Expr::Column(2))?;
+    Ok(ungrouped(alloc, sources, conds, items))
+}
+
+/// `SELECT x.amount FROM sale x JOIN shop s ON x.shop = s.id WHERE s.city = city`
+pub fn in_city(alloc: Global, city: Chars) -> Result<Parts, NoMemory>
+    ensures { IfOk result (λ parts. parts ≡ spec.in_city city) }
+{
+    let sources = sources(alloc, &[3, 2])?;
+    let link = equal(alloc, 0, 3)?;
+    let test = compare(
+        alloc,
+        CompareKind::Equal,
+        4,
+        Expr::Literal(Value::Text(city)),
+    )?;
+    let conds = two(alloc, link, test)?;
+    let items = one(alloc, Expr::Column(2))?;
     Ok(ungrouped(alloc, sources, conds, items))
 }
 

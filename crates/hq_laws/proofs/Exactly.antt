@@ -79,7 +79,7 @@ module _ (kinds : List Kind) where
     members_in-are end_of-Expr h = cc
     members_in-are (more_of-Expr e rest) h = members-are e h
 
-  all-are : (conds : List Expr) → are_conditions kinds conds ≡ true → are_conditions kinds (flat_map members conds) ≡ true
+  pub all-are : (conds : List Expr) → are_conditions kinds conds ≡ true → are_conditions kinds (flat_map members conds) ≡ true
   all-are [] h = refl
   all-are (e ∷ conds) h =
       let b : (is_of kind.Bool (expr_kind kinds e) ≡ true) × (are_conditions kinds conds ≡ true) = both_true (is_of kind.Bool (expr_kind kinds e)) _ h in

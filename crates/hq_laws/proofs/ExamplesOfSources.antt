@@ -15,6 +15,7 @@ use Rattle.hq_meaning.specs.Plans.{Parts, plan_mean}
 use Rattle.hq_laws.specs.Sources.{Source, have_tests}
 use Rattle.hq_laws.specs.Tests.{tests_of, with_tests}
 use Rattle.hq_laws.specs.Gathered.{gathered_plan}
+use Rattle.hq_laws.specs.Guards.{guards_of, with_guards, Guarded, all_guarded, guarded}
 use Rattle.hq_laws.specs.Spread.{Way, MoveBoth, MoveRight, Stay, Joining, spread_plan}
 use Rattle.hq_laws.specs.Placed.{joins_are_placed}
 use Rattle.hq_laws.specs.Scanned.{tables_scanned, all_tested}
@@ -175,3 +176,49 @@ third-placed = refl
 third-not_placed : joins_are_placed numbers by_group 0 (three_joined (2 ∷ [])) ≡ false
 unfolding three_joined numbers by_group
 third-not_placed = refl
+
+-- SELECT u.id, v.k FROM u JOIN v ON u.g = v.g AND u.id < u.g WHERE v.k IS NULL OR v.k < 9: two columns of u, and a choice
+-- of conditions on v, are guards, though no tests
+low_id : Expr
+unfolding hidden-the_row-Expr-0 hidden
+low_id = e.Compare compare.Less (e.Column 0) (e.Column 1)
+
+null_or_few : ℕ → Expr
+unfolding below_nine int hidden-the_row-Expr-0 hidden
+null_or_few place = e.Or (e.IsNull (e.Column place)) (below_nine place)
+
+guarding : List Expr
+unfolding hidden-the_row-Expr-0 hidden
+guarding = e.And same_group low_id ∷ null_or_few 2 ∷ []
+
+u_guarded : Source
+u_guarded = record { table = 0; tests = low_id ∷ [] }
+
+v_guarded : Source
+v_guarded = record { table = 1; tests = null_or_few 0 ∷ [] }
+
+guarding-held : with_guards numbers guarding 0 (0 ∷ 1 ∷ []) ≡ u_guarded ∷ v_guarded ∷ []
+unfolding u_guarded v_guarded guarding same_group low_id null_or_few below_nine numbers int hidden-the_row-Expr-0 hidden
+guarding-held = refl
+
+guarding-no_tests : with_tests numbers guarding 0 (0 ∷ 1 ∷ []) ≡ plain 0 ∷ plain 1 ∷ []
+unfolding plain guarding same_group low_id null_or_few below_nine numbers int hidden-the_row-Expr-0 hidden
+guarding-no_tests = refl
+
+-- what names both sources guards neither, nor does what names no column
+linked-none : guards_of (numbers 1) 2 (same_group ∷ e.Literal (int 1) ∷ []) ≡ []
+unfolding same_group numbers int hidden-the_row-Expr-0 hidden
+linked-none = refl
+
+-- where all columns of both sides travel by g, each Scan stands directly under its guards
+guarded_by : Source → List Expr → Plan
+guarded_by first tests = spread_plan numbers four met first ((record { table = 1; tests = tests; left_keys = 1 ∷ []; right_keys = 1 ∷ []; way = MoveBoth }) ∷ [])
+
+guarded-scanned : all_guarded (guarded_by u_guarded (null_or_few 0 ∷ [])).slices ≡ map (guarded numbers) (u_guarded ∷ v_guarded ∷ [])
+unfolding guarded_by u_guarded v_guarded met same_group low_id null_or_few below_nine numbers four int hidden-the_row-Expr-0 hidden-the_row-Op-0 hidden
+guarded-scanned = refl
+
+-- not so where those of v are left above the join
+guarded-left_above : map (λ (g : Guarded). length g.guards) (all_guarded (guarded_by u_guarded []).slices) ≢ 1 ∷ 1 ∷ []
+unfolding guarded_by u_guarded met same_group low_id numbers four int hidden-the_row-Expr-0 hidden-the_row-Op-0 hidden
+guarded-left_above e = cc

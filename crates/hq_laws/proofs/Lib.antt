@@ -12,8 +12,12 @@ pub mod Finals
 pub mod Fitness
 pub mod GatheredForm
 pub mod Gathering
+pub mod FromGuards
+pub mod Guarded
+pub mod Guarding
 pub mod Halves
 pub mod Lists
+pub mod Members
 pub mod Merge
 pub mod Moving
 pub mod OverNodes
@@ -32,8 +36,7 @@ pub mod SpreadForm
 pub mod Spreading
 pub mod Stages
 pub mod Standing
-pub mod Tested
 pub mod Testing
-pub mod TurnedTests
+pub mod TurnedGuards
 pub mod Turning
 pub mod Typing

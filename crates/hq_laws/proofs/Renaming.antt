@@ -40,7 +40,7 @@ module _ (f : ℕ → ℕ) where
     arith_in-renamed (more_of-Expr e rest) = arith-renamed e
 
   mutual
-    column-renamed : (e : Expr) → has_column (renamed f e) ≡ has_column e
+    pub column-renamed : (e : Expr) → has_column (renamed f e) ≡ has_column e
     column-renamed (expr.Column place) = refl
     column-renamed (expr.Literal v) = refl
     column-renamed (expr.Arith' step p left q right) = λ i. column_in-renamed left i || column_in-renamed right i
@@ -55,7 +55,7 @@ module _ (f : ℕ → ℕ) where
     column_in-renamed (more_of-Expr e rest) = column-renamed e
 
   mutual
-    parts-renamed : (e : Expr) → parts (renamed f e) ≡ parts e
+    pub parts-renamed : (e : Expr) → parts (renamed f e) ≡ parts e
     parts-renamed (expr.Column place) = refl
     parts-renamed (expr.Literal v) = refl
     parts-renamed (expr.Arith' step p left q right) = λ i. suc (parts_of-renamed left i + parts_of-renamed right i)

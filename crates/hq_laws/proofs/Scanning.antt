@@ -38,6 +38,13 @@ counted p xs = sym (is_count_by (tally p) p refl (λ x rest. by (p x) (tally p r
     by true m = refl
     by false m = omega arith
 
+tally-map : {A B : Type 0} (p : B → Bool) (f : A → B) (xs : List A) → tally p (map f xs) ≡ tally (λ x. p (f x)) xs
+tally-map p f [] = refl
+tally-map p f (x ∷ xs) = ap (λ n. cond (p (f x)) 1 0 + n) (tally-map p f xs)
+
+pub count-map : {A B : Type 0} (p : B → Bool) (f : A → B) (xs : List A) → count_by p (map f xs) ≡ count_by (λ x. p (f x)) xs
+count-map p f xs = counted p (map f xs) ∙ tally-map p f xs ∙ sym (counted (λ x. p (f x)) xs)
+
 -- the operators of what is built
 abbrev total : (Op → Bool) → Built → ℕ
 total p b = tally p (all_operators b.slices) + tally p (operators b.root)

@@ -72,7 +72,7 @@ all-true e [] row = by (is_true_at e row)
     by false = refl
 all-true e (f ∷ es) row = and-is (eval e row) (eval (all_of f es) row) ∙ ap (λ b. is_true_at e row && b) (all-true f es row)
 
-all-calm : (e : Expr) (es : List Expr) → cannot_fault (e ∷ es) ≡ true → has_arith (all_of e es) ≡ false
+pub all-calm : (e : Expr) (es : List Expr) → cannot_fault (e ∷ es) ≡ true → has_arith (all_of e es) ≡ false
 unfolding hidden-the_row-Expr-0 hidden
 all-calm e [] h = calm (has_arith e) (both_true (not (has_arith e)) true h).0
   where

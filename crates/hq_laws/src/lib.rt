@@ -13,6 +13,7 @@ pub use motions::{dealt_nodes_are_in_use, motions_split_lists};
 pub use orders::{renaming_keeps_rules, sources_may_change_places};
 pub use plans::{
     equated_joins_stand, final_places_fit, gathered_plans_are_well_formed, gathering_keeps_meaning,
-    held_tests_are_said, joining_on_nodes_keeps_meaning, joining_plans_are_well_formed,
-    said_tests_stand, scans_stand_under_their_tests, sources_stand_in_scans,
+    guarded_scans_are_tested, guards_stand, held_tests_are_said, joining_on_nodes_keeps_meaning,
+    joining_plans_are_well_formed, said_tests_stand, scans_stand_under_their_guards,
+    sources_stand_in_scans,
 };

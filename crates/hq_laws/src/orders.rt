@@ -12,7 +12,7 @@ ghost use Rattle.hq_meaning.specs.Plans.{Parts, all_rows};
 ghost use Rattle.hq_laws.specs.Spread.{FitKinds};
 ghost use Rattle.hq_algebra.specs.Bound.{has_room};
 ghost use Rattle.hq_laws.specs.Sources.{Source};
-ghost use Rattle.hq_laws.specs.Tests.{with_tests};
+ghost use Rattle.hq_laws.specs.Guards.{with_guards};
 ghost use Rattle.hq_laws.specs.Turned.{turned, renamed, renamed_aggregate, AreTurned, columns_in, FitTables};
 
 /// A query means the same where some of its sources stand behind those that follow them, with the columns renamed.
@@ -22,7 +22,7 @@ pub fn sources_may_change_places()
     ensures fit { (kinds : ℕ → List Kind) (parts : Parts) (owner : List ℕ) → FitKinds kinds parts → FitTables kinds (all_rows parts owner) }
     ensures kinds { (kinds : ℕ → List Kind) (q r : Query) (before first second after : List ℕ) → q.sources ≡ before ++ (first ++ (second ++ after)) → r.sources ≡ before ++ (second ++ (first ++ after)) → AreTurned (turned (columns_in kinds before) (columns_in kinds first) (columns_in kinds second)) q r → query_kinds kinds r ≡ query_kinds kinds q }
     ensures room { (kinds : ℕ → List Kind) (q r : Query) (before first second after : List ℕ) → q.sources ≡ before ++ (first ++ (second ++ after)) → r.sources ≡ before ++ (second ++ (first ++ after)) → AreTurned (turned (columns_in kinds before) (columns_in kinds first) (columns_in kinds second)) q r → has_room kinds r ≡ has_room kinds q }
-    ensures tests { (kinds : ℕ → List Kind) (q r : Query) (before first second after : List ℕ) → q.sources ≡ before ++ (first ++ (second ++ after)) → r.sources ≡ before ++ (second ++ (first ++ after)) → AreTurned (turned (columns_in kinds before) (columns_in kinds first) (columns_in kinds second)) q r → (p : Source → Bool) → count_by p (with_tests kinds r.conds 0 r.sources) ≡ count_by p (with_tests kinds q.conds 0 q.sources) }
+    ensures guards { (kinds : ℕ → List Kind) (q r : Query) (before first second after : List ℕ) → q.sources ≡ before ++ (first ++ (second ++ after)) → r.sources ≡ before ++ (second ++ (first ++ after)) → AreTurned (turned (columns_in kinds before) (columns_in kinds first) (columns_in kinds second)) q r → (p : Source → Bool) → count_by p (with_guards kinds r.conds 0 r.sources) ≡ count_by p (with_guards kinds q.conds 0 q.sources) }
 {}
 
 /// Renamed columns change nothing of the rules that a query keeps by itself.

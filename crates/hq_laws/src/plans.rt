@@ -3,6 +3,7 @@ ghost use Rattle.std.specs.Prelude.{◌≡◌, ◌≤◌, ℕ, List, ◌∷◌, 
 ghost use Rattle.hq_value.specs.declared.kind.Kind.{Kind};
 ghost use Rattle.hq_algebra.specs.declared.expr.Expr.{Expr};
 ghost use Rattle.hq_algebra.specs.declared.query.Query.{Query};
+ghost use Rattle.hq_algebra.specs.declared.plan.Slice.{Slice};
 ghost use Rattle.hq_algebra.specs.Rules.{arguments, are_below};
 ghost use Rattle.hq_algebra.specs.Queries.{query_kinds};
 ghost use Rattle.hq_algebra.specs.Plans.{is_well_formed};
@@ -13,6 +14,7 @@ ghost use Rattle.hq_laws.specs.Stages.{final_aggregates};
 ghost use Rattle.hq_laws.specs.Sources.{Source, SourcesStand, all_of, fit_filters, are_tests, have_tests};
 ghost use Rattle.hq_laws.specs.Tests.{members, with_tests, few_tests};
 ghost use Rattle.hq_laws.specs.Gathered.{gathered_plan, tables_of};
+ghost use Rattle.hq_laws.specs.Guards.{with_guards, AreGuarded};
 ghost use Rattle.hq_laws.specs.Equated.{are_equated};
 ghost use Rattle.hq_algebra.specs.Bound.{has_room, has_places};
 ghost use Rattle.hq_laws.specs.Room.{are_joinable, kinds_sent, is_sendable};
@@ -82,9 +84,22 @@ pub fn sources_stand_in_scans()
     ensures joined_tests { (kinds : ℕ → List Kind) (sent : List Kind) (q : Query) (s : Source) (js : List Joining) → AreFiltered kinds (spread_plan kinds sent q s js).slices (sources_of s js) }
 {}
 
-/// With all tests that a query's conditions hold on its sources, the Scans of both plans are those of the sources, each
-/// directly under a Filter whose members that are tests are exactly these, or under no such member where there are none.
-pub fn scans_stand_under_their_tests()
-    ensures gathered { (kinds : ℕ → List Kind) (q : Query) → AreTested (gathered_plan kinds q (with_tests kinds q.conds 0 q.sources)).slices (with_tests kinds q.conds 0 q.sources) }
-    ensures joined { (kinds : ℕ → List Kind) (sent : List Kind) (q : Query) (s : Source) (js : List Joining) → sources_of s js ≡ with_tests kinds q.conds 0 q.sources → AreTested (spread_plan kinds sent q s js).slices (with_tests kinds q.conds 0 q.sources) }
+/// The guards of each source, which are the members of a query's conditions that name it alone, are implied by the
+/// conditions, and with at most eight conditions they fit a Filter.
+pub fn guards_stand()
+    ensures implied { (kinds : ℕ → List Kind) (q : Query) → SourcesStand kinds q.conds 0 (with_guards kinds q.conds 0 q.sources) }
+    ensures fit { (kinds : ℕ → List Kind) (q : Query) → IsTrue (is_some (query_kinds kinds q)) → length q.conds ≤ 8 → IsTrue (fit_filters kinds (with_guards kinds q.conds 0 q.sources)) }
+    ensures tables { (kinds : ℕ → List Kind) (q : Query) → tables_of (with_guards kinds q.conds 0 q.sources) ≡ q.sources }
+{}
+
+/// With the guards of each source, the Scans of both plans are those of the sources, each directly under a Filter whose
+/// members that are guards are exactly these, or under no such member where there are none.
+pub fn scans_stand_under_their_guards()
+    ensures gathered { (kinds : ℕ → List Kind) (q : Query) → AreGuarded kinds (gathered_plan kinds q (with_guards kinds q.conds 0 q.sources)).slices (with_guards kinds q.conds 0 q.sources) }
+    ensures joined { (kinds : ℕ → List Kind) (sent : List Kind) (q : Query) (s : Source) (js : List Joining) → sources_of s js ≡ with_guards kinds q.conds 0 q.sources → AreGuarded kinds (spread_plan kinds sent q s js).slices (with_guards kinds q.conds 0 q.sources) }
+{}
+
+/// Scans that stand under exactly the guards of their sources stand under exactly their tests, which are among these.
+pub fn guarded_scans_are_tested()
+    ensures { (kinds : ℕ → List Kind) (conds : List Expr) (w : ℕ) (ts : List ℕ) (slices : List Slice) → AreGuarded kinds slices (with_guards kinds conds w ts) → AreTested slices (with_tests kinds conds w ts) }
 {}

@@ -1,4 +1,4 @@
 pub mod Examples
 pub mod Form
+pub mod Guarded
 pub mod Means
-pub mod Tested

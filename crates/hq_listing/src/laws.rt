@@ -7,12 +7,11 @@ ghost use Rattle.hq_algebra.specs.Plans.{is_well_formed};
 ghost use Rattle.hq_algebra.specs.Queries.{query_kinds};
 ghost use Rattle.hq_meaning.specs.Mean.{mean};
 ghost use Rattle.hq_meaning.specs.Plans.{Parts, plan_mean, all_rows};
+ghost use Rattle.hq_laws.specs.Guards.{with_guards, AreGuarded};
 ghost use Rattle.hq_laws.specs.Placed.{joins_are_placed, StandByOwn};
 ghost use Rattle.hq_laws.specs.Room.{are_joinable};
-ghost use Rattle.hq_laws.specs.Scanned.{AreTested};
 ghost use Rattle.hq_laws.specs.Sources.{Source, SourcesStand, fit_filters};
 ghost use Rattle.hq_laws.specs.Spread.{Joining, sources_of, FitKinds, KeysAreImplied};
-ghost use Rattle.hq_laws.specs.Tests.{with_tests};
 ghost use Rattle.hq_laws.specs.Words.{IsOwner};
 ghost use Rattle.hq_listing.specs.Listing.{listing_plan};
 
@@ -30,8 +29,8 @@ pub fn listing_plans_are_well_formed()
     ensures { (kinds : ℕ → List Kind) (out : List Kind) (q : Query) (s : Source) (js : List Joining) → q.grouped ≡ false → q.sources ≡ s.table ∷ map (λ (j : Joining). j.table) js → query_kinds kinds q ≡ Some out → IsTrue (has_room kinds q) → IsTrue (are_joinable kinds (kinds s.table) js) → IsTrue (fit_filters kinds (sources_of s js)) → IsTrue (is_well_formed (listing_plan kinds out q s js)) }
 {}
 
-/// With all tests that a query's conditions hold on its sources, the Scans of that plan are those of the sources, each
-/// directly under a Filter whose members that are tests are exactly these, or under no such member where there are none.
-pub fn listed_scans_stand_under_their_tests()
-    ensures { (kinds : ℕ → List Kind) (out : List Kind) (q : Query) (s : Source) (js : List Joining) → q.grouped ≡ false → sources_of s js ≡ with_tests kinds q.conds 0 q.sources → AreTested (listing_plan kinds out q s js).slices (with_tests kinds q.conds 0 q.sources) }
+/// With the guards of each source, the Scans of that plan are those of the sources, each directly under a Filter whose
+/// members that are guards are exactly these, or under no such member where there are none.
+pub fn listed_scans_stand_under_their_guards()
+    ensures { (kinds : ℕ → List Kind) (out : List Kind) (q : Query) (s : Source) (js : List Joining) → q.grouped ≡ false → sources_of s js ≡ with_guards kinds q.conds 0 q.sources → AreGuarded kinds (listing_plan kinds out q s js).slices (with_guards kinds q.conds 0 q.sources) }
 {}

@@ -5,6 +5,6 @@
 mod laws;
 
 pub use laws::{
-    listed_scans_stand_under_their_tests, listing_on_nodes_keeps_meaning,
+    listed_scans_stand_under_their_guards, listing_on_nodes_keeps_meaning,
     listing_plans_are_well_formed,
 };

@@ -25,7 +25,7 @@ use Rattle.hq_laws.proofs.Typing.{length-every}
 use Rattle.hq_narrow.specs.declared.taken.Taken.{Taken}
 use Rattle.hq_narrow.specs.Narrow.{taken_at, place_from, places, are_there}
 use Rattle.hq_narrow.specs.Widened.{HaveKinds}
-use Rattle.hq_narrow.proofs.Testing.{kind-taken, place-first, place-second, place-further, place-below, map-map-tables}
+use Rattle.hq_narrow.proofs.Guarding.{kind-taken, place-first, place-second, place-further, place-below, map-map-tables}
 
 -- the kinds, where those of each column are found at its new place
 module _ (f : ℕ → ℕ) (from to : List Kind) (same : (i : ℕ) → slice_get to (f i) ≡ slice_get from i) where

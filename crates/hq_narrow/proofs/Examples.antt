@@ -1,11 +1,12 @@
 -- A small query over some columns of its sources, a plan of it, and what does not mean the same.
-use Rattle.std.proofs.Common.{◌≡◌, ◌≢◌, ℕ, zero, List, [], ◌∷◌, pos, true, false, None, refl, arith}
+use Rattle.std.proofs.Common.{◌≡◌, ◌≢◌, ℕ, zero, List, [], ◌∷◌, map, pos, true, false, None, refl, arith}
 use Rattle.hq_value.specs.declared.kind.Kind.{Kind}
 use Rattle.hq_value.specs.declared.kind.Kind.TheVariants as kind
 use Rattle.hq_value.specs.declared.value.Value.TheVariants as value
 use Rattle.hq_value.specs.declared.operator.CompareKind.TheVariants as compare
 use Rattle.hq_algebra.specs.declared.expr.Expr.{Expr}
 use Rattle.hq_algebra.specs.declared.expr.Expr.TheVariants as e
+use Rattle.hq_algebra.specs.declared.op.Op.TheVariants as op
 use Rattle.hq_algebra.specs.declared.plan.Plan.{Plan}
 use Rattle.hq_algebra.specs.declared.query.Query.{Query}
 use Rattle.hq_algebra.specs.declared.expr.Expr.TheBlock.{hidden-the_row-Expr-0}
@@ -14,15 +15,14 @@ use denote.Hole.Carrier.{hidden}
 use Rattle.hq_algebra.specs.Plans.{is_well_formed}
 use Rattle.hq_meaning.specs.Mean.{Rows, mean}
 use Rattle.hq_meaning.specs.Plans.{plan_mean}
-use Rattle.hq_laws.specs.Scanned.{all_tested}
+use Rattle.hq_laws.specs.Guards.{with_guards, all_guarded, guarded}
 use Rattle.hq_laws.specs.Sources.{Source}
 use Rattle.hq_laws.specs.Spread.{MoveBoth, spread_plan}
-use Rattle.hq_laws.specs.Tests.{with_tests}
 use Rattle.hq_laws.specs.Turned.{AreTurned, columns_in}
 use Rattle.hq_laws.proofs.Examples.{int, three, uv, numbers, by_columns}
 use Rattle.hq_narrow.specs.declared.taken.Taken.{Taken}
 use Rattle.hq_narrow.specs.Narrow.{taken_tables, place_from, places}
-use Rattle.hq_narrow.specs.Widened.{widened_plan}
+use Rattle.hq_narrow.specs.Widened.{widened, widened_plan}
 
 -- SELECT v.k FROM u JOIN v ON u.g = v.g WHERE u.g < 15: u.id is named nowhere
 all_columns : Query
@@ -117,10 +117,19 @@ narrow-well_formed : is_well_formed (widened_plan numbers needed narrow) ≡ tru
 unfolding narrow needed below_15 three_columns found numbers hidden-the_row-Expr-0 hidden-the_row-Op-0 hidden
 narrow-well_formed = refl
 
--- the test of u stands over its column 1 there, directly above its Scan
-narrow-tested : all_tested (widened_plan numbers needed narrow).slices ≡ with_tests numbers all_columns.conds 0 all_columns.sources
+-- all columns of v are taken, so its Scan stands without a Project; those of u are not
+v_as_it_stands : widened numbers needed None (op.Scan 1 (kind.Int ∷ kind.Int ∷ [])) ≡ op.Scan 1 (kind.Int ∷ kind.Int ∷ [])
+unfolding needed numbers hidden-the_row-Expr-0 hidden-the_row-Op-0 hidden
+v_as_it_stands = refl
+
+u_in_part : widened numbers needed None (op.Scan 0 (kind.Int ∷ [])) ≡ op.Project (e.Column 1 ∷ []) (op.Scan 0 (kind.Int ∷ kind.Int ∷ []))
+unfolding needed numbers hidden-the_row-Expr-0 hidden-the_row-Op-0 hidden
+u_in_part = refl
+
+-- the guard of u stands over its column 1 there, directly above its Scan
+narrow-guarded : all_guarded (widened_plan numbers needed narrow).slices ≡ map (guarded numbers) (with_guards numbers all_columns.conds 0 all_columns.sources)
 unfolding narrow needed below_15 three_columns all_columns found numbers hidden-the_row-Expr-0 hidden-the_row-Op-0 hidden
-narrow-tested = refl
+narrow-guarded = refl
 
 one_off-widened : plan_mean (widened_plan numbers one_off narrow) (by_columns (0 ∷ [])) three ≢ Rows ((int 7 ∷ []) ∷ (int 7 ∷ []) ∷ (int 9 ∷ []) ∷ (int 9 ∷ []) ∷ [])
 unfolding narrow one_off below_15 three_columns found numbers by_columns uv three int hidden-the_row-Expr-0 hidden-the_row-Op-0 hidden

@@ -1,5 +1,5 @@
 -- A plan with each Scan replaced by the columns of its table is well formed.
-use Rattle.std.proofs.Common.{◌≡◌, ℕ, zero, suc, ◌+◌, ◌-◌, ◌==◌, Bool, true, false, not, cond, ◌&&◌, ◌||◌, nat_le, List, [], ◌∷◌, ◌++◌, length, map, flat_map, count_by, Option, Some, None, is_some, slice_get, refl, sym, ◌∙◌, ap, IsTrue}
+use Rattle.std.proofs.Common.{◌≡◌, ℕ, zero, suc, ◌+◌, ◌-◌, ◌<◌, ◌≤◌, ◌==◌, Bool, true, false, not, cond, ◌&&◌, ◌||◌, nat_le, List, [], ◌∷◌, ◌++◌, drop, length, map, flat_map, count_by, Option, Some, None, is_some, slice_get, refl, sym, ◌∙◌, ap, arith, IsTrue}
 use Rattle.std.specs.Option.{option_map_or}
 use Rattle.std.specs.List.{list_all, list_any, range_with_len, AllByRecursion}
 use Rattle.std.proofs.lemmas.List.{length-map, map-append}
@@ -24,16 +24,16 @@ use Rattle.hq_algebra.specs.Plans as form
 use Rattle.hq_algebra.specs.Plans.{operators, operators_in, received, is_short, is_join, is_gather, op_is_fine, slice_is_fine, motion_stands, motion_is_fine, ends_with_result, sent_kinds, are_sent, gathers, receives_what_is_sent, receives_a_gather, only_gathers, gathers_alone, fits_before, fit_in_order, ends_with_gather, all_operators, are_received_once, joins_without_counts, are_well_formed, is_well_formed}
 use Rattle.hq_meaning.specs.Slices.{receives}
 use Rattle.hq_laws.specs.Turned.{renamed, renamed_in}
-use Rattle.hq_laws.proofs.Lists.{both_true, or_true}
+use Rattle.hq_laws.proofs.Lists.{both_true, eq_means, or_true}
 use Rattle.hq_laws.proofs.Regroup.{flat_map-flat_map}
 use Rattle.hq_laws.proofs.Shapes.{any-received, none-any, all-operators}
 use Rattle.hq_laws.proofs.Typing.{length-every}
 use Rattle.hq_narrow.specs.declared.taken.Taken.{Taken}
 use Rattle.hq_narrow.specs.Narrow.{taken_at, place_from}
-use Rattle.hq_narrow.specs.Widened.{columns_of, under, full, taken_op, widened, widened_in, widened_slice, widened_plan, are_kinds, scan_fits, scans_fit, are_few}
+use Rattle.hq_narrow.specs.Widened.{are_all_from, columns_of, under, full, taken_op, widened, widened_in, widened_slice, widened_plan, are_kinds, scan_fits, scans_fit, are_few}
 use Rattle.hq_narrow.proofs.Binding.{kind-renamed}
-use Rattle.hq_narrow.proofs.Testing.{kind-taken, same-lists}
-use Rattle.hq_narrow.proofs.Widening.{widened-receives}
+use Rattle.hq_narrow.proofs.Guarding.{kind-taken, same-lists}
+use Rattle.hq_narrow.proofs.Widening.{all-most, widened-receives}
 
 -- the shape of a condition stays
 module _ (f : ℕ → ℕ) where
@@ -119,6 +119,28 @@ module _ (kinds : ℕ → List Kind) (ts : List Taken) where
       one None = refl
       one (Some k) = refl
 
+  -- all columns in order have the table's kinds
+  kinds-next : (ks : List Kind) (i : ℕ) → i < length ks → (slice_get ks i >>= (λ y. Some (drop (suc i) ks) >>= (λ ys. Some (y ∷ ys)))) ≡ Some (drop i ks)
+  kinds-next [] i h = absurd (omega (arith, h))
+  kinds-next (k ∷ ks) zero h = refl
+  kinds-next (k ∷ ks) (suc i) h = kinds-next ks i (omega (arith, h))
+
+  kinds-past : (ks : List Kind) (i : ℕ) → i ≡ length ks → Some [] ≡ Some (drop i ks)
+  kinds-past [] zero h = refl
+  kinds-past [] (suc i) h = refl
+  kinds-past (k ∷ ks) zero h = absurd (omega (arith, h))
+  kinds-past (k ∷ ks) (suc i) h = kinds-past ks i (omega (arith, h))
+
+  all-kinds : (ks : List Kind) (columns : List ℕ) (i : ℕ) → are_all_from i (length ks) columns ≡ true → keys_kinds ks columns ≡ Some (drop i ks)
+  all-kinds ks [] i h = kinds-past ks i (eq_means i (length ks) h)
+  all-kinds ks (c ∷ columns) i h =
+      let b : (c == i ≡ true) × (are_all_from (suc i) (length ks) columns ≡ true) = both_true (c == i) _ h in
+      let l : suc i ≤ length ks = all-most (suc i) (length ks) columns b.1 in
+      (λ t. slice_get ks (eq_means c i b.0 t) >>= (λ y. all-kinds ks columns (suc i) b.1 t >>= (λ ys. Some (y ∷ ys)))) ∙ kinds-next ks i (omega (arith, l))
+
+  some-same : (xs ys : List Kind) → Some xs ≡ Some ys → xs ≡ ys
+  some-same xs ys h = cc
+
   module _ (v : ℕ) (found : List Kind) (fits : scan_fits kinds ts (op.Scan v found) ≡ true) where
     abbrev t : Taken
     t = taken_at ts v
@@ -126,16 +148,20 @@ module _ (kinds : ℕ → List Kind) (ts : List Taken) where
     abbrev own : List Kind
     own = kinds t.table
 
-    taken-kinds : (above : Option Expr) → op_kinds (taken_op kinds t above) ≡ kinds_under above (Some found)
-    unfolding hidden-the_row-Op-0 hidden
-    taken-kinds None = columns-kinds own t.columns ∙ found-kinds v found fits
-    taken-kinds (Some c) =
-        ap (λ k. some_if (is_of kind.Bool k) own >>= (λ ks. items_kinds ks (map expr.Column t.columns))) (kind-renamed (place_from t.columns (length own)) found own (kind-taken own t.columns found (found-kinds v found fits)) c)
-        ∙ by (is_of kind.Bool (expr_kind found c))
+    columns-found : (b : Bool) → are_all_from 0 (length own) t.columns ≡ b → (x : Op) (d : Bool) → op_kinds x ≡ some_if d own → op_kinds (cond b x (op.Project (map expr.Column t.columns) x)) ≡ some_if d found
+    columns-found true h x d e = e ∙ ap (some_if d) (some-same own found (sym (all-kinds own t.columns 0 h) ∙ found-kinds v found fits))
+    columns-found false h x d e = project-kinds x x (map expr.Column t.columns) ∙ ap (λ o. o >>= (λ ks. items_kinds ks (map expr.Column t.columns))) e ∙ by d
       where
-        by : (b : Bool) → (some_if b own >>= (λ ks. items_kinds ks (map expr.Column t.columns))) ≡ some_if b found
+        by : (d : Bool) → (some_if d own >>= (λ ks. items_kinds ks (map expr.Column t.columns))) ≡ some_if d found
         by true = columns-kinds own t.columns ∙ found-kinds v found fits
         by false = refl
+
+    taken-kinds : (above : Option Expr) → op_kinds (taken_op kinds t above) ≡ kinds_under above (Some found)
+    unfolding hidden-the_row-Op-0 hidden
+    taken-kinds None = columns-found (are_all_from 0 (length own) t.columns) refl (op.Scan t.table own) true refl
+    taken-kinds (Some c) =
+        columns-found (are_all_from 0 (length own) t.columns) refl (op.Filter (full kinds t c) (op.Scan t.table own)) (is_of kind.Bool (expr_kind found c))
+        (ap (λ k. some_if (is_of kind.Bool k) own) (kind-renamed (place_from t.columns (length own)) found own (kind-taken own t.columns found (found-kinds v found fits)) c))
 
   mutual
     pub widened-kinds : (above : Option Expr) (o : Op) → scans_fit kinds ts o ≡ true → op_kinds (widened kinds ts above o) ≡ kinds_under above (op_kinds o)
@@ -251,13 +277,17 @@ receive-passes q slice ks own = λ i. own i && true
 
 module _ (kinds : ℕ → List Kind) (ts : List Taken) where
   module _ (p q : Head → Bool) (carry : Carries kinds ts p q) where
+    columns-passes : (b : Bool) (x : Op) → Passes q x → (items : List Expr) → q (AProject items) ≡ true → Passes q (cond b x (op.Project items x))
+    columns-passes true x h items own = h
+    columns-passes false x h items own = project-passes q x h items own
+
     taken-passes : (v : ℕ) (found : List Kind) → scan_fits kinds ts (op.Scan v found) ≡ true → p (AScan v found) ≡ true → (above : Option Expr) → MayStand q above → Passes q (taken_op kinds (taken_at ts v) above)
     taken-passes v found fits own None may =
         let c = carry.scan v found fits own in
-        project-passes q (op.Scan (taken_at ts v).table (kinds (taken_at ts v).table)) (scan-passes q (taken_at ts v).table (kinds (taken_at ts v).table) c.0) (map expr.Column (taken_at ts v).columns) c.1
+        columns-passes (are_all_from 0 (length (kinds (taken_at ts v).table)) (taken_at ts v).columns) (op.Scan (taken_at ts v).table (kinds (taken_at ts v).table)) (scan-passes q (taken_at ts v).table (kinds (taken_at ts v).table) c.0) (map expr.Column (taken_at ts v).columns) c.1
     taken-passes v found fits own (Some e) may =
         let c = carry.scan v found fits own in
-        project-passes q (op.Filter (full kinds (taken_at ts v) e) (op.Scan (taken_at ts v).table (kinds (taken_at ts v).table)))
+        columns-passes (are_all_from 0 (length (kinds (taken_at ts v).table)) (taken_at ts v).columns) (op.Filter (full kinds (taken_at ts v) e) (op.Scan (taken_at ts v).table (kinds (taken_at ts v).table)))
         (filter-passes q (op.Scan (taken_at ts v).table (kinds (taken_at ts v).table)) (scan-passes q (taken_at ts v).table (kinds (taken_at ts v).table) c.0) (full kinds (taken_at ts v) e) (may.1 (place_from (taken_at ts v).columns (length (kinds (taken_at ts v).table)))))
         (map expr.Column (taken_at ts v).columns) c.1
 

@@ -1,7 +1,7 @@
 pub mod Binding
 pub mod Examples
 pub mod Form
+pub mod Guarding
 pub mod Keyed
 pub mod Taking
-pub mod Testing
 pub mod Widening

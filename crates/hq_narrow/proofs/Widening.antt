@@ -1,5 +1,5 @@
 -- A plan over columns that are taken means what it does with each Scan replaced by the columns of its table.
-use Rattle.std.proofs.Common.{◌≡◌, ℕ, zero, suc, ◌+◌, Bool, true, false, cond, ◌&&◌, ◌||◌, List, [], ◌∷◌, ◌++◌, length, map, filter, flat_map, Option, Some, None, refl, sym, ◌∙◌, ap, arith}
+use Rattle.std.proofs.Common.{◌≡◌, ℕ, zero, suc, ◌+◌, ◌<◌, ◌≤◌, ◌==◌, Bool, true, false, cond, ◌&&◌, ◌||◌, List, [], ◌∷◌, ◌++◌, drop, length, map, filter, flat_map, Option, Some, None, refl, sym, ◌∙◌, ap, arith}
 use Rattle.std.specs.List.{list_any, range_with_len, AllByRecursion}
 use Rattle.hq_value.specs.declared.value.Value.{Value}
 use Rattle.hq_value.specs.declared.kind.Kind.{Kind}
@@ -25,11 +25,11 @@ use Rattle.hq_meaning.specs.Plans.{Parts, Sent, sent_by, here_at, runs_on, run_s
 use Rattle.hq_laws.specs.Spread.{FitKinds}
 use Rattle.hq_laws.specs.Turned.{renamed, renamed_in}
 use Rattle.hq_laws.proofs.Chains.{IsWide, AllByRecursion-flat_map}
-use Rattle.hq_laws.proofs.Lists.{AllByRecursion-All, or_false}
+use Rattle.hq_laws.proofs.Lists.{AllByRecursion-All, both_true, eq_means, or_false}
 use Rattle.hq_laws.proofs.Regroup.{flat_map-append}
 use Rattle.hq_narrow.specs.declared.taken.Taken.{Taken}
 use Rattle.hq_narrow.specs.Narrow.{taken_at, place_from, taken_row, taken_parts}
-use Rattle.hq_narrow.specs.Widened.{columns_of, under, full, taken_op, widened, widened_in, widened_slice, widened_plan}
+use Rattle.hq_narrow.specs.Widened.{are_all_from, columns_of, under, full, taken_op, widened, widened_in, widened_slice, widened_plan}
 use Rattle.hq_narrow.proofs.Taking.{map-flat_map, place-column}
 
 -- an expression over the columns that are taken of a row
@@ -91,6 +91,57 @@ module _ (columns : List ℕ) where
     some-faults-taken : (rows : List Row) → AllByRecursion (IsWide n) rows → faults_in (wider ∷ []) rows ≡ faults_in (c ∷ []) (map (taken_row columns) rows)
     some-faults-taken [] all = refl
     some-faults-taken (row ∷ rows) all = λ i. (faults-taken row all.0 i || false) || some-faults-taken rows all.1 i
+
+-- all columns in order
+pub all-most : (i n : ℕ) (cs : List ℕ) → are_all_from i n cs ≡ true → i ≤ n
+all-most i n [] h = let e : i ≡ n = eq_means i n h in omega (arith, e)
+all-most i n (c ∷ cs) h = let l : suc i ≤ n = all-most (suc i) n cs (both_true (c == i) _ h).1 in omega (arith, l)
+
+row-next : (row : Row) (i : ℕ) → i < length row → column row i ∷ drop (suc i) row ≡ drop i row
+row-next [] i h = absurd (omega (arith, h))
+row-next (x ∷ row) zero h = refl
+row-next (x ∷ row) (suc i) h = row-next row i (omega (arith, h))
+
+row-past : (row : Row) (i : ℕ) → length row ≤ i → drop i row ≡ []
+row-past [] zero h = refl
+row-past [] (suc i) h = refl
+row-past (x ∷ row) zero h = absurd (omega (arith, h))
+row-past (x ∷ row) (suc i) h = row-past row i (omega (arith, h))
+
+all-row : (cs : List ℕ) (i n : ℕ) (row : Row) → are_all_from i n cs ≡ true → length row ≡ n → taken_row cs row ≡ drop i row
+all-row [] i n row h e = let f : i ≡ n = eq_means i n h in sym (row-past row i (omega (arith, e, f)))
+all-row (c ∷ cs) i n row h e =
+    let b : (c == i ≡ true) × (are_all_from (suc i) n cs ≡ true) = both_true (c == i) _ h in
+    let l : suc i ≤ n = all-most (suc i) n cs b.1 in
+    (λ t. column row (eq_means c i b.0 t) ∷ all-row cs (suc i) n row b.1 e t) ∙ row-next row i (omega (arith, l, e))
+
+all-rows : (cs : List ℕ) (n : ℕ) → are_all_from 0 n cs ≡ true → (rows : List Row) → AllByRecursion (IsWide n) rows → map (taken_row cs) rows ≡ rows
+all-rows cs n h [] wide = refl
+all-rows cs n h (row ∷ rows) wide = λ t. all-row cs 0 n row h wide.0 t ∷ all-rows cs n h rows wide.1 t
+
+filter-wide : (n : ℕ) (c : Expr) (rows : List Row) → AllByRecursion (IsWide n) rows → AllByRecursion (IsWide n) (filtered c rows)
+filter-wide n c [] wide = tt
+filter-wide n c (row ∷ rows) wide = by (is_true_at c row) wide.0 (filter-wide n c rows wide.1)
+  where
+    by : (b : Bool) → IsWide n row → AllByRecursion (IsWide n) (filtered c rows) → AllByRecursion (IsWide n) (cond b (row ∷ filtered c rows) (filtered c rows))
+    by true w rest = (w, rest)
+    by false w rest = rest
+
+-- by a Project, or as they stand
+columns-receive : (b : Bool) (items : List Expr) (x : Op) → receives (cond b x (op.Project items x)) ≡ receives x
+unfolding hidden-the_row-Op-0 hidden
+columns-receive true items x = refl
+columns-receive false items x = refl
+
+columns-rows : (b : Bool) (cs : List ℕ) (x : Op) (here : Here) → (b ≡ true → map (taken_row cs) (rows_of x here) ≡ rows_of x here) → rows_of (cond b x (op.Project (map expr.Column cs) x)) here ≡ map (taken_row cs) (rows_of x here)
+unfolding hidden-the_row-Op-0 hidden
+columns-rows true cs x here same = sym (same refl)
+columns-rows false cs x here same = projected-taken cs (rows_of x here)
+
+columns-calm : (b : Bool) (cs : List ℕ) (x : Op) (here : Here) → op_faults (cond b x (op.Project (map expr.Column cs) x)) here ≡ op_faults x here
+unfolding hidden-the_row-Op-0 hidden
+columns-calm true cs x here = refl
+columns-calm false cs x here = ap (λ d. op_faults x here || d) (projected-calm cs (rows_of x here)) ∙ or_false (op_faults x here)
 
 -- rows under a condition, if there is one, and whether it faults over them
 abbrev rows_under : Option Expr → List Row → List Row
@@ -195,8 +246,8 @@ module _ (x y : Op) where
 module _ (kinds : ℕ → List Kind) (ts : List Taken) where
   taken-receives : (t : Taken) (above : Option Expr) → receives (taken_op kinds t above) ≡ []
   unfolding hidden-the_row-Op-0 hidden
-  taken-receives t None = refl
-  taken-receives t (Some c) = refl
+  taken-receives t None = columns-receive (are_all_from 0 (length (kinds t.table)) t.columns) (map expr.Column t.columns) (op.Scan t.table (kinds t.table))
+  taken-receives t (Some c) = columns-receive (are_all_from 0 (length (kinds t.table)) t.columns) (map expr.Column t.columns) (op.Filter (full kinds t c) (op.Scan t.table (kinds t.table)))
 
   mutual
     pub widened-receives : (above : Option Expr) (o : Op) → receives (widened kinds ts above o) ≡ receives o
@@ -220,15 +271,18 @@ module _ (kinds : ℕ → List Kind) (ts : List Taken) where
       (wide : (t : ℕ) → AllByRecursion (IsWide (length (kinds t))) (here.tables t)) where
     taken-rows : (t : Taken) (above : Option Expr) → rows_of (taken_op kinds t above) here ≡ rows_under above (map (taken_row t.columns) (here.tables t.table))
     unfolding hidden-the_row-Op-0 hidden
-    taken-rows t None = projected-taken t.columns (here.tables t.table)
-    taken-rows t (Some c) = projected-taken t.columns (filtered (full kinds t c) (here.tables t.table)) ∙ filter-taken t.columns (length (kinds t.table)) c (here.tables t.table) (wide t.table)
+    taken-rows t None = columns-rows (are_all_from 0 (length (kinds t.table)) t.columns) t.columns (op.Scan t.table (kinds t.table)) here (λ h. all-rows t.columns (length (kinds t.table)) h (here.tables t.table) (wide t.table))
+    taken-rows t (Some c) =
+        columns-rows (are_all_from 0 (length (kinds t.table)) t.columns) t.columns (op.Filter (full kinds t c) (op.Scan t.table (kinds t.table))) here
+        (λ h. all-rows t.columns (length (kinds t.table)) h (filtered (full kinds t c) (here.tables t.table)) (filter-wide (length (kinds t.table)) (full kinds t c) (here.tables t.table) (wide t.table)))
+        ∙ filter-taken t.columns (length (kinds t.table)) c (here.tables t.table) (wide t.table)
 
     taken-faults : (t : Taken) (above : Option Expr) → op_faults (taken_op kinds t above) here ≡ faults_under above false (map (taken_row t.columns) (here.tables t.table))
     unfolding hidden-the_row-Op-0 hidden
-    taken-faults t None = projected-calm t.columns (here.tables t.table)
+    taken-faults t None = columns-calm (are_all_from 0 (length (kinds t.table)) t.columns) t.columns (op.Scan t.table (kinds t.table)) here
     taken-faults t (Some c) =
-        (λ i. some-faults-taken t.columns (length (kinds t.table)) c (here.tables t.table) (wide t.table) i || projected-calm t.columns (filtered (full kinds t c) (here.tables t.table)) i)
-        ∙ or_false (faults_in (c ∷ []) (map (taken_row t.columns) (here.tables t.table)))
+        columns-calm (are_all_from 0 (length (kinds t.table)) t.columns) t.columns (op.Filter (full kinds t c) (op.Scan t.table (kinds t.table))) here
+        ∙ some-faults-taken t.columns (length (kinds t.table)) c (here.tables t.table) (wide t.table)
 
     mutual
       pub widened-rows : (above : Option Expr) (o : Op) → rows_of (widened kinds ts above o) here ≡ rows_under above (rows_of o taken)

@@ -1,4 +1,5 @@
 -- Plans over sources of which only some columns are taken, over their tables.
+--     columns_of n columns op            these columns of a table of n, by a Project where they are not all in order
 --     taken_op kinds t above             the columns of a table under a condition, if there is one
 --     widened kinds ts above op          an operator under a condition, if there is one, with each Scan of a source
 --                                        replaced by its columns
@@ -6,7 +7,7 @@
 --     scans_fit kinds ts op              each Scan has the kinds of the columns that are taken of its source
 --     are_few kinds ts s                 a slice has at most 64 operators so
 --     HaveKinds kinds found ts vs        the columns that are taken of each source have the kinds of its number
-use Rattle.std.specs.Prelude.{◌≡◌, ℕ, Bool, true, false, ◌&&◌, nat_le, List, [], ◌∷◌, map, length, Option, Some, None}
+use Rattle.std.specs.Prelude.{◌≡◌, ◌==◌, ℕ, suc, Bool, true, false, ◌&&◌, nat_le, List, [], ◌∷◌, map, length, Option, Some, None, if◌then◌else◌}
 use Rattle.std.specs.List.{list_all, AllByRecursion}
 use Rattle.hq_value.specs.declared.kind.Kind.{Kind}
 use Rattle.hq_algebra.specs.declared.expr.Expr.{Expr}
@@ -23,9 +24,14 @@ use Rattle.hq_laws.specs.Turned.{renamed}
 use Rattle.hq_narrow.specs.declared.taken.Taken.{Taken}
 use Rattle.hq_narrow.specs.Narrow.{taken_at, place_from}
 
--- the columns of a table
-abbrev pub columns_of : List ℕ → Op → Op
-columns_of columns input = op.Project (map expr.Column columns) input
+-- the columns are all that follow the i-th one of n, in order
+abbrev pub are_all_from : ℕ → ℕ → List ℕ → Bool
+are_all_from i n [] = i == n
+are_all_from i n (c ∷ columns) = (c == i) && are_all_from (suc i) n columns
+
+-- the columns of a table of n columns. All of them in order are the table's rows as they stand
+abbrev pub columns_of : ℕ → List ℕ → Op → Op
+columns_of n columns input = if are_all_from 0 n columns then input else op.Project (map expr.Column columns) input
 
 -- an operator under a condition, if there is one
 abbrev pub under : Option Expr → Op → Op
@@ -38,8 +44,8 @@ full kinds t e = renamed (place_from t.columns (length (kinds t.table))) e
 
 -- the columns of a table, at whose rows the condition is true, if there is one
 abbrev pub taken_op : (ℕ → List Kind) → Taken → Option Expr → Op
-taken_op kinds t None = columns_of t.columns (op.Scan t.table (kinds t.table))
-taken_op kinds t (Some cond) = columns_of t.columns (op.Filter (full kinds t cond) (op.Scan t.table (kinds t.table)))
+taken_op kinds t None = columns_of (length (kinds t.table)) t.columns (op.Scan t.table (kinds t.table))
+taken_op kinds t (Some cond) = columns_of (length (kinds t.table)) t.columns (op.Filter (full kinds t cond) (op.Scan t.table (kinds t.table)))
 
 -- an operator under a condition, if there is one. Each Scan of a source is replaced by its columns, which stand above
 -- the condition that is directly above it

@@ -10,10 +10,9 @@ ghost use Rattle.hq_algebra.specs.Plans.{is_well_formed};
 ghost use Rattle.hq_algebra.specs.Queries.{query_kinds};
 ghost use Rattle.hq_meaning.specs.Mean.{Database, mean};
 ghost use Rattle.hq_meaning.specs.Plans.{Parts, plan_mean, all_rows};
+ghost use Rattle.hq_laws.specs.Guards.{with_guards, AreGuarded};
 ghost use Rattle.hq_laws.specs.Placed.{StandByOwn};
-ghost use Rattle.hq_laws.specs.Scanned.{AreTested};
 ghost use Rattle.hq_laws.specs.Spread.{FitKinds};
-ghost use Rattle.hq_laws.specs.Tests.{with_tests};
 ghost use Rattle.hq_laws.specs.Turned.{AreTurned, columns_in, FitTables};
 ghost use Rattle.hq_narrow.specs.declared.taken.Taken.{Taken};
 ghost use Rattle.hq_narrow.specs.Narrow.{taken_at, taken_tables, taken_parts, place_from, places, are_there, AreOwn};
@@ -27,15 +26,16 @@ pub fn taking_columns_keeps_meaning()
 {}
 
 /// A plan over the columns that are taken of the sources means what the plan does in which a Project over each source's
-/// own Scan, under the condition that stands directly above it, takes these columns.
+/// own Scan, under the condition that stands directly above it, takes these columns. Where they are all columns of a
+/// table in order, it has no Project.
 pub fn widened_plans_mean_the_same()
     ensures { (kinds : ℕ → List Kind) (ts : List Taken) (plan : Plan) (parts : Parts) (owner : List ℕ) → FitKinds kinds parts → plan_mean (widened_plan kinds ts plan) parts owner ≡ plan_mean plan (taken_parts ts parts) owner }
 {}
 
-/// Its Scans are those of the query's sources, each directly under exactly the tests that the query's conditions hold
-/// on it, where those of the other plan are so.
-pub fn taken_scans_stand_under_their_tests()
-    ensures { (kinds found : ℕ → List Kind) (q r : Query) (ts : List Taken) (plan : Plan) → q.sources ≡ map (λ (t : Taken). t.table) ts → map (taken_at ts) r.sources ≡ ts → IsTrue (are_there kinds ts) → HaveKinds kinds found ts r.sources → AreTurned (place_from (places kinds ts) (columns_in kinds q.sources)) r q → IsTrue (list_all (λ (s : Slice). scans_fit kinds ts s.root) plan.slices) → AreTested plan.slices (with_tests found r.conds 0 r.sources) → AreTested (widened_plan kinds ts plan).slices (with_tests kinds q.conds 0 q.sources) }
+/// Its Scans are those of the query's sources, each directly under exactly its guards among the members of the query's
+/// conditions, where those of the other plan are so.
+pub fn taken_scans_stand_under_their_guards()
+    ensures { (kinds found : ℕ → List Kind) (q r : Query) (ts : List Taken) (plan : Plan) → q.sources ≡ map (λ (t : Taken). t.table) ts → map (taken_at ts) r.sources ≡ ts → IsTrue (are_there kinds ts) → HaveKinds kinds found ts r.sources → AreTurned (place_from (places kinds ts) (columns_in kinds q.sources)) r q → IsTrue (list_all (λ (s : Slice). scans_fit kinds ts s.root) plan.slices) → AreGuarded found plan.slices (with_guards found r.conds 0 r.sources) → AreGuarded kinds (widened_plan kinds ts plan).slices (with_guards kinds q.conds 0 q.sources) }
 {}
 
 /// It is well formed, where the other plan is so, each of whose Scans has the kinds of the columns that are taken of its

@@ -5,7 +5,7 @@ mod laws;
 mod taken;
 
 pub use laws::{
-    taken_queries_are_bound, taken_rows_keep_rules, taken_scans_stand_under_their_tests,
+    taken_queries_are_bound, taken_rows_keep_rules, taken_scans_stand_under_their_guards,
     taking_columns_keeps_meaning, widened_plans_are_well_formed, widened_plans_mean_the_same,
 };
 pub use taken::Taken;

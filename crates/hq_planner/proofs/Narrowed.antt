@@ -1,10 +1,9 @@
 -- A query over the columns that are taken of its sources is one, and its plan, over the tables, serves the query.
-use Rattle.std.proofs.Common.{◌≡◌, ℕ, ◌+◌, nat_lt, nat_le, Bool, true, false, cond, not, ◌&&◌, ◌||◌, List, [], ◌∷◌, ◌++◌, length, map, Option, Some, None, slice_get, refl, sym, ◌∙◌, ap, subst, arith, lt-ltb}
+use Rattle.std.proofs.Common.{◌≡◌, ℕ, ◌+◌, nat_le, Bool, true, false, cond, not, ◌&&◌, ◌||◌, List, [], ◌∷◌, ◌++◌, length, map, Option, Some, None, slice_get, refl, sym, ◌∙◌, ap, subst, arith}
 use Rattle.std.specs.List.{list_all, AllByRecursion, range_with_len}
 use Rattle.std.proofs.lemmas.List.{length-map}
 use Rattle.std.proofs.lemmas.List.FromFn.{length-range_with_len}
 use Rattle.std.proofs.lemmas.List.Folds.{list_all-append}
-use Rattle.std.proofs.lemmas.Option.{slice_get_within}
 use Rattle.hq_value.specs.Tables.{all_below}
 use Rattle.hq_value.specs.declared.kind.Kind.{Kind}
 use Rattle.hq_algebra.specs.declared.aggregate.Aggregate.{Aggregate}
@@ -13,7 +12,6 @@ use Rattle.hq_algebra.specs.declared.op.SortKey.{SortKey}
 use Rattle.hq_algebra.specs.declared.plan.Plan.{Plan}
 use Rattle.hq_algebra.specs.declared.query.Query.{Query}
 use Rattle.hq_algebra.specs.Bound.{is_table, is_bound}
-use Rattle.hq_algebra.specs.Kinds.{◌>>=◌, every}
 use Rattle.hq_algebra.specs.Operators.{keys_kinds}
 use Rattle.hq_algebra.specs.Plans.{is_well_formed}
 use Rattle.hq_algebra.specs.Rules.{is_empty, cannot_fault, are_small, arguments, fit_sources, are_below, are_within}
@@ -26,15 +24,16 @@ use Rattle.hq_laws.proofs.Turning.{tables-fit}
 use Rattle.hq_laws.proofs.Typing.{length-every}
 use Rattle.hq_narrow.specs.declared.taken.Taken.{Taken}
 use Rattle.hq_narrow.specs.Narrow.{taken_at, taken_parts, place_from, places, are_there}
-use Rattle.hq_narrow.specs.Widened.{HaveKinds}
+use Rattle.hq_narrow.specs.Widened.{widened_plan, HaveKinds}
 use Rattle.hq_narrow.proofs.Binding.{bound-taken}
 use Rattle.hq_narrow.proofs.Form.{widened-well_formed}
+use Rattle.hq_narrow.proofs.Guarding.{below-found, scans-guarded}
 use Rattle.hq_narrow.proofs.Keyed.{keys-stand, rows-fit}
 use Rattle.hq_narrow.proofs.Taking.{mean-taken, rows-taken}
-use Rattle.hq_narrow.proofs.Testing.{scans-tested}
 use Rattle.hq_narrow.proofs.Widening.{widened-means}
-use Rattle.hq_whole.specs.Serves.{Serves, Means, Scans}
+use Rattle.hq_whole.specs.Serves.{Serves, Means, Guards}
 use Rattle.hq_whole.specs.Tables.{Defs, kinds_by, keys_by}
+use Rattle.hq_whole.proofs.Plans.{serves-from}
 use Rattle.hq_planner.specs.Parts.{AreParts, IsNarrowed, are_some}
 use Rattle.hq_planner.specs.Widens.{WidensPlan}
 use Rattle.hq_planner.proofs.Taken.{taken-all}
@@ -126,17 +125,6 @@ module _ (f : ℕ → ℕ) (q : Query) (groups : List ℕ) (conds having items :
   pub order-kept : (order : List SortKey) → order ≡ q.order → are_within order (length items) ≡ true
   order-kept order e = (λ i. are_within (e i) (items-count i)) ∙ q.order_columns
 
--- columns that have kinds are there
-below-found : (whole : List Kind) (columns : List ℕ) (found : List Kind) → every (slice_get whole) columns ≡ Some found → all_below (length whole) columns ≡ true
-below-found whole [] found h = refl
-below-found whole (c ∷ columns) found h = by (slice_get whole c) (every (slice_get whole) columns) refl refl h (below-found whole columns)
-  where
-    by : (o : Option Kind) (p : Option (List Kind)) → slice_get whole c ≡ o → every (slice_get whole) columns ≡ p → (o >>= (λ y. p >>= (λ ys. Some (y ∷ ys)))) ≡ Some found
-        → ((ys : List Kind) → every (slice_get whole) columns ≡ Some ys → all_below (length whole) columns ≡ true) → (nat_lt c (length whole) && all_below (length whole) columns) ≡ true
-    by None p e g h rest = cc
-    by (Some y) None e g h rest = cc
-    by (Some y) (Some ys) e g h rest = λ i. lt-ltb c (length whole) (slice_get_within whole c y e) i && rest ys g i
-
 all-at : (p : Taken → Bool) (ts : List Taken) (vs : List ℕ) → ((v : ℕ) → p (taken_at ts v) ≡ true) → list_all p (map (taken_at ts) vs) ≡ true
 all-at p ts [] h = refl
 all-at p ts (v ∷ vs) h = λ i. h v i && all-at p ts vs h i
@@ -167,23 +155,24 @@ module _ (defs found : Defs) (q r : Query) (ts : List Taken) (n : IsNarrowed def
   narrowed-bound h = bound-taken kinds (kinds_by found) ts q r n.tables n.sources there have n.turned h (all-tables (kinds_by found) ts r.sources many ∙ ap (list_all are_some) n.sources ∙ n.parts.some)
 
   pub narrowed-serves : (p new : Plan) → Serves found r p → WidensPlan kinds ts p new → Serves defs q new
-  narrowed-serves p new served w = subst (Serves defs q) (sym w.same) (record {
-    means = λ parts owner owned rules.
-        widened-means kinds ts p parts owner rules.0
-        ∙ served.means (taken_parts ts parts) owner owned (rows-fit (kinds_by found) ts parts many, keys-stand kinds (keys_by defs) (keys_by found) ts parts (λ v. (n.parts.each v).keys_are) rules.0 rules.1)
-        ∙ ap (mean r) (rows-taken ts parts owner)
-        ∙ mean-taken kinds q r ts (all_rows parts owner) n.tables n.sources there n.turned (tables-fit kinds parts owner rules.0);
-    form = widened-well_formed kinds ts p served.form w.fit w.few;
-    scans = scans-tested kinds (kinds_by found) q r ts p n.tables n.sources there have n.turned w.fit served.scans;
-  })
+  narrowed-serves p new served w =
+      subst (Serves defs q) (sym w.same)
+      (serves-from defs q (widened_plan kinds ts p)
+      (λ parts owner owned rules.
+      widened-means kinds ts p parts owner rules.0
+      ∙ served.means (taken_parts ts parts) owner owned (rows-fit (kinds_by found) ts parts many, keys-stand kinds (keys_by defs) (keys_by found) ts parts (λ v. (n.parts.each v).keys_are) rules.0 rules.1)
+      ∙ ap (mean r) (rows-taken ts parts owner)
+      ∙ mean-taken kinds q r ts (all_rows parts owner) n.tables n.sources there n.turned (tables-fit kinds parts owner rules.0))
+      (widened-well_formed kinds ts p served.form w.fit w.few)
+      (scans-guarded kinds (kinds_by found) q r ts p n.tables n.sources there have n.turned w.fit served.guards))
 
   -- the plan that is made of the query over what is taken
   pub planned-bound : (all : Defs) → all ≡ found → is_bound kinds q ≡ true → is_bound (kinds_by all) r ≡ true
   planned-bound all e h = ap (λ (d : Defs). is_bound (kinds_by d) r) e ∙ narrowed-bound h
 
-  pub planned-serves : (all : Defs) (us : List Taken) (p new : Plan) → all ≡ found → us ≡ ts → Means all r p → is_well_formed p ≡ true → Scans all r p → WidensPlan kinds us p new → Serves defs q new
-  planned-serves all us p new e f means form scans w =
-      narrowed-serves p new (subst (λ (d : Defs). Serves d r p) e (record { means = means; form = form; scans = scans })) (subst (λ (vs : List Taken). WidensPlan kinds vs p new) f w)
+  pub planned-serves : (all : Defs) (us : List Taken) (p new : Plan) → all ≡ found → us ≡ ts → Means all r p → is_well_formed p ≡ true → Guards all r p → WidensPlan kinds us p new → Serves defs q new
+  planned-serves all us p new e f means form guards w =
+      narrowed-serves p new (subst (λ (d : Defs). Serves d r p) e (serves-from all r p means form guards)) (subst (λ (vs : List Taken). WidensPlan kinds vs p new) f w)
 
 -- the query that is made over what is taken
 pub query-narrowed : (defs found : Defs) (q r : Query) (ts us : List Taken) (columns numbers : List ℕ) (width count : ℕ) → AreParts defs ts found → map (λ (t : Taken). t.table) ts ≡ q.sources → us ≡ ts

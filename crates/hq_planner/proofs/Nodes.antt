@@ -94,8 +94,8 @@ all-same [] = refl
 all-same (k ∷ kinds) = λ i. same-self k i && all-same kinds i
 
 op-same : (kinds : ℕ → List Kind) (whole : List Kind) (t : Taken) (above : Option Expr) → whole ≡ kinds t.table → taken_op (λ v. whole) t above ≡ taken_op kinds t above
-op-same kinds whole t None e = ap (λ k. columns_of t.columns (op.Scan t.table k)) e
-op-same kinds whole t (Some c) e = λ i. columns_of t.columns (op.Filter (renamed (place_from t.columns (length (e i))) c) (op.Scan t.table (e i)))
+op-same kinds whole t None e = ap (λ k. columns_of (length k) t.columns (op.Scan t.table k)) e
+op-same kinds whole t (Some c) e = λ i. columns_of (length (e i)) t.columns (op.Filter (renamed (place_from t.columns (length (e i))) c) (op.Scan t.table (e i)))
 
 pub at-op : (kinds : ℕ → List Kind) (ts : List Taken) (above : Option Expr) (o p new : Op) → o ≡ p → Widens kinds ts above p new → Widens kinds ts above o new
 at-op kinds ts above o p new e w = subst (λ (x : Op). Widens kinds ts above x new) (sym e) w

@@ -3,7 +3,7 @@ ghost use Rattle.std.specs.Prelude.{◌≡◌, IfOk, IsTrue, map};
 ghost use Rattle.hq_algebra.specs.Bound.{is_bound};
 ghost use Rattle.hq_algebra.specs.Plans.{is_well_formed};
 ghost use Rattle.hq_whole.specs.Tables as tables;
-ghost use Rattle.hq_whole.specs.Serves.{Serves, Means, Scans};
+ghost use Rattle.hq_whole.specs.Serves.{Serves, Means, Scans, Guards};
 ghost use Rattle.hq_planner.specs.Parts.{AreParts, IsNarrowed};
 
 use crate::narrowing::narrow_query;
@@ -17,9 +17,10 @@ use std::alloc::Global;
 
 /// A plan of a query that is bound over these definitions. It means what the query means, and faults alike, over every
 /// split into buckets that keeps the tables' rules and for every assignment of the buckets. Each source stands in
-/// exactly one Scan, directly under exactly the tests that the query's conditions hold on it. Where there are several
-/// sources, only the columns that the query names travel. The sizes, by place in `defs`, steer choices and change no
-/// meaning.
+/// exactly one Scan, directly under a Filter which holds exactly the tests that the query's conditions hold on it, and
+/// exactly the members of the conditions that name it alone, so that rows which these exclude do not travel. Where there
+/// are several sources, only the columns that the query names travel. The sizes, by place in `defs`, steer choices and
+/// change no meaning.
 pub fn plan(
     alloc: Global,
     query: &Query,
@@ -30,6 +31,7 @@ pub fn plan(
     ensures means { IfOk result (λ plan. Means defs.now query.now plan) }
     ensures form { IfOk result (λ plan. IsTrue (is_well_formed plan)) }
     ensures scans { IfOk result (λ plan. Scans defs.now query.now plan) }
+    ensures guards { IfOk result (λ plan. Guards defs.now query.now plan) }
 {
     match narrow_plan(alloc, query, defs, sizes) {
         Ok(plan) => Ok(plan),

@@ -20,7 +20,7 @@ use sqlite_items::Boxed;
 use std::alloc::Global;
 
 /// The plan in which a Project over the Scan of each source's table, under the condition that stands directly above it,
-/// takes its columns. Unfit where a Scan has other kinds, or a slice more operators than it may have.
+/// takes its columns, where these are not all columns in order. Unfit where a Scan has other kinds, or a slice more operators than it may have.
 pub fn widened_plan(
     alloc: Global,
     taken: &[Taken],
@@ -164,7 +164,7 @@ fn source_op(
         kinds: whole,
     };
     let kept = kept(alloc, columns, width, above, scan)?;
-    columns_of(alloc, columns, kept)
+    columns_of(alloc, columns, width, kept)
 }
 
 // The rows of a Scan at which a condition over its columns that are taken is true, if there is one.
@@ -187,8 +187,30 @@ fn kept(
     }
 }
 
-fn columns_of(alloc: Global, columns: &[u16], input: Op) -> Result<Op, NoMemory>
-    ensures { IfOk result (λ op. op ≡ spec.columns_of columns.now input) }
+// The columns of a table of `width` columns. All of them in order are its rows as they stand.
+fn columns_of(alloc: Global, columns: &[u16], width: u16, input: Op) -> Result<Op, NoMemory>
+    ensures { IfOk result (λ op. op ≡ spec.columns_of width columns.now input) }
+{
+    if are_all(columns, width) {
+        return Ok(input);
+    }
+    only(alloc, columns, input)
+}
+
+fn are_all(columns: &[u16], width: u16) -> bool
+    ensures { result ≡ spec.are_all_from 0 width columns.now }
+{
+    for i in 0..columns.len() {
+        if columns[i] as usize != i {
+            return false;
+        }
+    }
+    columns.len() == width as usize
+}
+
+// These columns of the rows.
+fn only(alloc: Global, columns: &[u16], input: Op) -> Result<Op, NoMemory>
+    ensures { IfOk result (λ op. op ≡ Op.Project (map expr.Column columns.now) input) }
 {
     let items = as_items(alloc, columns)?;
     let input = Boxed::new(alloc, input)?;

@@ -10,24 +10,24 @@ use Rattle.hq_algebra.specs.declared.plan.Plan.{Plan}
 use Rattle.hq_algebra.specs.declared.plan.Slice.{Slice}
 use Rattle.hq_algebra.specs.declared.query.Query.{Query}
 use Rattle.hq_laws.specs.Gathered.{product_op, rest_op, scan_slice}
+use Rattle.hq_laws.specs.Guards.{guards_of, with_guards}
 use Rattle.hq_laws.specs.Sources.{source_op}
 use Rattle.hq_laws.specs.Spread.{Way, CopyRight, CopyLeft, MoveBoth, MoveLeft, MoveRight, Stay, Built, Joining, added_slices, left_side, right_side, with_source, with_sources, closed}
 use Rattle.hq_laws.specs.Stages.{filters, partial_op, final_op, tail_op, sending}
-use Rattle.hq_laws.specs.Tests.{tests_of, with_tests}
 use Rattle.hq_listing.specs.Listing.{end_op, listed}
 use Rattle.hq_whole.specs.Choices.{way_of, joining_of, joinings}
 use Rattle.hq_whole.specs.Gathers.{gathered_of}
 use Rattle.hq_whole.specs.declared.step.Step.{Step}
 
 pub built-next : (kinds : ℕ → List Kind) (conds : List Expr) (b : Built) (s : Step) (w : ℕ) (source : Op) (others : List Kind) (n : Built)
-    → w ≡ length b.kinds → source ≡ source_op kinds s.table (tests_of (kinds s.table) w conds) → others ≡ kinds s.table
+    → w ≡ length b.kinds → source ≡ source_op kinds s.table (guards_of (kinds s.table) w conds) → others ≡ kinds s.table
     → n.slices ≡ b.slices ++ added_slices (way_of s.way) s.left_keys s.right_keys b.root source
     → n.root ≡ op.Join s.left_keys s.right_keys (left_side (way_of s.way) (length b.slices) b.kinds b.root) (right_side (way_of s.way) (length b.slices) others source) → n.kinds ≡ b.kinds ++ others
     → n ≡ with_source kinds b (joining_of kinds conds (length b.kinds) s)
 built-next kinds conds b s w source others n ew es eo slices root all =
-    let src : source ≡ source_op kinds s.table (tests_of (kinds s.table) (length b.kinds) conds) = es ∙ ap (λ (n : ℕ). source_op kinds s.table (tests_of (kinds s.table) n conds)) ew in
-    let given : n.slices ≡ b.slices ++ added_slices (way_of s.way) s.left_keys s.right_keys b.root (source_op kinds s.table (tests_of (kinds s.table) (length b.kinds) conds)) = slices ∙ ap (λ (o : Op). b.slices ++ added_slices (way_of s.way) s.left_keys s.right_keys b.root o) src in
-    let joined : n.root ≡ op.Join s.left_keys s.right_keys (left_side (way_of s.way) (length b.slices) b.kinds b.root) (right_side (way_of s.way) (length b.slices) (kinds s.table) (source_op kinds s.table (tests_of (kinds s.table) (length b.kinds) conds))) =
+    let src : source ≡ source_op kinds s.table (guards_of (kinds s.table) (length b.kinds) conds) = es ∙ ap (λ (n : ℕ). source_op kinds s.table (guards_of (kinds s.table) n conds)) ew in
+    let given : n.slices ≡ b.slices ++ added_slices (way_of s.way) s.left_keys s.right_keys b.root (source_op kinds s.table (guards_of (kinds s.table) (length b.kinds) conds)) = slices ∙ ap (λ (o : Op). b.slices ++ added_slices (way_of s.way) s.left_keys s.right_keys b.root o) src in
+    let joined : n.root ≡ op.Join s.left_keys s.right_keys (left_side (way_of s.way) (length b.slices) b.kinds b.root) (right_side (way_of s.way) (length b.slices) (kinds s.table) (source_op kinds s.table (guards_of (kinds s.table) (length b.kinds) conds))) =
     root ∙ (λ i. op.Join s.left_keys s.right_keys (left_side (way_of s.way) (length b.slices) b.kinds b.root) (right_side (way_of s.way) (length b.slices) (eo i) (src i))) in
     let more : n.kinds ≡ b.kinds ++ kinds s.table = all ∙ ap (λ (o : List Kind). b.kinds ++ o) eo in
     λ i. record { slices = given i; root = joined i; kinds = more i }
@@ -78,12 +78,12 @@ listed-same q b out values one two received root last ev e1 er et el e2 =
 
 -- the plan that gathers each source by itself
 pub gathered-same : (kinds : ℕ → List Kind) (q : Query) (conds : List Expr) (sources : List ℕ) (product root : Op) (scans all : List Slice) (last : Slice)
-    → conds ≡ q.conds → sources ≡ q.sources → product ≡ product_op kinds sources → root ≡ rest_op q product → scans ≡ map (scan_slice kinds) (with_tests kinds conds 0 sources)
-    → last ≡ sending motion.Result root → all ≡ scans ++ last ∷ [] → (let plan : Plan = record { slices = all } in plan) ≡ gathered_of kinds q (with_tests kinds q.conds 0 q.sources) q.sources
+    → conds ≡ q.conds → sources ≡ q.sources → product ≡ product_op kinds sources → root ≡ rest_op q product → scans ≡ map (scan_slice kinds) (with_guards kinds conds 0 sources)
+    → last ≡ sending motion.Result root → all ≡ scans ++ last ∷ [] → (let plan : Plan = record { slices = all } in plan) ≡ gathered_of kinds q (with_guards kinds q.conds 0 q.sources) q.sources
 gathered-same kinds q conds sources product root scans all last ec es ep er en el ea =
     let ended : last ≡ sending motion.Result (rest_op q (product_op kinds q.sources)) = el ∙ ap (sending motion.Result) (er ∙ ap (rest_op q) (ep ∙ ap (product_op kinds) es)) in
-    let front : scans ≡ map (scan_slice kinds) (with_tests kinds q.conds 0 q.sources) = en ∙ (λ i. map (scan_slice kinds) (with_tests kinds (ec i) 0 (es i))) in
-    let whole : all ≡ map (scan_slice kinds) (with_tests kinds q.conds 0 q.sources) ++ sending motion.Result (rest_op q (product_op kinds q.sources)) ∷ [] = ea ∙ (λ i. front i ++ ended i ∷ []) in
+    let front : scans ≡ map (scan_slice kinds) (with_guards kinds q.conds 0 q.sources) = en ∙ (λ i. map (scan_slice kinds) (with_guards kinds (ec i) 0 (es i))) in
+    let whole : all ≡ map (scan_slice kinds) (with_guards kinds q.conds 0 q.sources) ++ sending motion.Result (rest_op q (product_op kinds q.sources)) ∷ [] = ea ∙ (λ i. front i ++ ended i ∷ []) in
     λ i. record { slices = whole i }
 
 drop-item : (steps : List Step) (i : ℕ) (s : Step) → i < length steps → s ≡ get_or steps i s → drop i steps ≡ s ∷ drop (suc i) steps

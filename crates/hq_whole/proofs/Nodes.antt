@@ -6,6 +6,8 @@ use Rattle.hq_algebra.specs.declared.expr.Expr.{Expr}
 use Rattle.hq_algebra.specs.declared.expr.Expr.TheVariants as e
 use Rattle.hq_algebra.specs.declared.expr.Expr.TheBlock.{hidden-the_row-Expr-0}
 use denote.Hole.Carrier.{hidden}
+use Rattle.hq_algebra.specs.Shape.{has_column}
+use Rattle.hq_laws.specs.Guards.{is_inside}
 use Rattle.hq_laws.specs.Turned.{renamed}
 use Rattle.hq_laws.specs.Equated.{is_equal, equates}
 use Rattle.hq_whole.specs.Choices.{are_places}
@@ -41,6 +43,59 @@ equates-Compare i j k x y = refl
 pub equates-And : (i j : ℕ) (x y : Expr) → equates i j (e.And x y) ≡ (equates i j x || equates i j y)
 unfolding hidden-the_row-Expr-0 hidden
 equates-And i j x y = refl
+
+-- the columns that an expression names
+pub column-Arith : (k : ArithKind) (x y : Expr) → has_column (e.Arith k x y) ≡ (has_column x || has_column y)
+unfolding hidden-the_row-Expr-0 hidden
+column-Arith k x y = refl
+
+pub column-Compare : (k : CompareKind) (x y : Expr) → has_column (e.Compare k x y) ≡ (has_column x || has_column y)
+unfolding hidden-the_row-Expr-0 hidden
+column-Compare k x y = refl
+
+pub column-And : (x y : Expr) → has_column (e.And x y) ≡ (has_column x || has_column y)
+unfolding hidden-the_row-Expr-0 hidden
+column-And x y = refl
+
+pub column-Or : (x y : Expr) → has_column (e.Or x y) ≡ (has_column x || has_column y)
+unfolding hidden-the_row-Expr-0 hidden
+column-Or x y = refl
+
+pub column-Not : (x : Expr) → has_column (e.Not x) ≡ has_column x
+unfolding hidden-the_row-Expr-0 hidden
+column-Not x = refl
+
+pub column-IsNull : (x : Expr) → has_column (e.IsNull x) ≡ has_column x
+unfolding hidden-the_row-Expr-0 hidden
+column-IsNull x = refl
+
+pub inside-Arith : (w v : ℕ) (k : ArithKind) (x y : Expr) → is_inside w v (e.Arith k x y) ≡ (is_inside w v x && is_inside w v y)
+unfolding hidden-the_row-Expr-0 hidden
+inside-Arith w v k x y = refl
+
+pub inside-Compare : (w v : ℕ) (k : CompareKind) (x y : Expr) → is_inside w v (e.Compare k x y) ≡ (is_inside w v x && is_inside w v y)
+unfolding hidden-the_row-Expr-0 hidden
+inside-Compare w v k x y = refl
+
+pub inside-And : (w v : ℕ) (x y : Expr) → is_inside w v (e.And x y) ≡ (is_inside w v x && is_inside w v y)
+unfolding hidden-the_row-Expr-0 hidden
+inside-And w v x y = refl
+
+pub inside-Or : (w v : ℕ) (x y : Expr) → is_inside w v (e.Or x y) ≡ (is_inside w v x && is_inside w v y)
+unfolding hidden-the_row-Expr-0 hidden
+inside-Or w v x y = refl
+
+pub inside-Not : (w v : ℕ) (x : Expr) → is_inside w v (e.Not x) ≡ is_inside w v x
+unfolding hidden-the_row-Expr-0 hidden
+inside-Not w v x = refl
+
+pub inside-IsNull : (w v : ℕ) (x : Expr) → is_inside w v (e.IsNull x) ≡ is_inside w v x
+unfolding hidden-the_row-Expr-0 hidden
+inside-IsNull w v x = refl
+
+pub ruleset column_nodes = (column-Arith, column-Compare, column-And, column-Or, column-Not, column-IsNull)
+
+pub ruleset inside_nodes = (inside-Arith, inside-Compare, inside-And, inside-Or, inside-Not, inside-IsNull)
 
 -- one expression more
 take-one : (es : List Expr) (i : ℕ) (x : Expr) → i < length es → x ≡ get_or es i x → take (suc i) es ≡ take i es ++ x ∷ []

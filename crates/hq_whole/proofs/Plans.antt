@@ -5,7 +5,7 @@ use Rattle.hq_algebra.specs.declared.expr.Expr.{Expr}
 use Rattle.hq_algebra.specs.declared.query.Query.{Query}
 use Rattle.hq_algebra.specs.declared.plan.Plan.{Plan}
 use Rattle.hq_algebra.specs.Bound.{has_room, has_places, is_bound}
-use Rattle.hq_algebra.specs.Plans.{is_short}
+use Rattle.hq_algebra.specs.Plans.{is_short, is_well_formed}
 use Rattle.hq_algebra.specs.Kinds.{◌>>=◌, some_if}
 use Rattle.hq_algebra.specs.Operators.{items_kinds}
 use Rattle.hq_algebra.specs.Queries.{product_kinds, group_kinds, are_conditions, query_kinds}
@@ -16,33 +16,33 @@ use Rattle.hq_laws.specs.Equated.{keys_equated, moves_rows, is_equated, are_equa
 use Rattle.hq_laws.specs.Gathered.{gathered_plan, tables_of}
 use Rattle.hq_laws.specs.Placed.{stays_by, sides_stay, own_homes, homes_after}
 use Rattle.hq_laws.specs.Room.{kinds_sent, is_sendable}
-use Rattle.hq_laws.specs.Sources.{Source, SourcesStand, have_tests, fit_filters}
+use Rattle.hq_laws.specs.Guards.{with_guards, guarded}
+use Rattle.hq_laws.specs.Sources.{Source, SourcesStand, fit_filters}
 use Rattle.hq_laws.specs.Spread as law
 use Rattle.hq_laws.specs.Spread.{Joining, source_of, sources_of, spread_plan}
-use Rattle.hq_laws.specs.Tests.{with_tests}
 use Rattle.hq_laws.specs.Turned.{FitTables}
 use Rattle.hq_laws.proofs.EquatedJoins.{equated-implied, equated-joinable, equated-placed}
-use Rattle.hq_laws.proofs.Exactly.{tests-stand, tested-tables}
-use Rattle.hq_laws.proofs.Fewness.{few-held}
+use Rattle.hq_laws.proofs.FromGuards.{tested-from}
 use Rattle.hq_laws.proofs.Gathering.{gathered-plan-means}
 use Rattle.hq_laws.proofs.GatheredForm.{gathered-well_formed}
+use Rattle.hq_laws.proofs.Guarded.{gathered-guards, spread-guards}
+use Rattle.hq_laws.proofs.Guarding.{guards-imply, guards-fit, guarded-tables}
 use Rattle.hq_laws.proofs.Lists.{both_true}
 use Rattle.hq_laws.proofs.Renaming.{kinds-turned, room-turned}
+use Rattle.hq_laws.proofs.Scanning.{count-map}
 use Rattle.hq_laws.proofs.SpreadClosed.{spread-well_formed}
 use Rattle.hq_laws.proofs.Spreading.{spread-plan-means}
-use Rattle.hq_laws.proofs.Tested.{gathered-held, spread-held}
-use Rattle.hq_laws.proofs.Testing.{sources-stand, sources-fit}
-use Rattle.hq_laws.proofs.TurnedTests.{tests-turned}
+use Rattle.hq_laws.proofs.TurnedGuards.{guards-turned}
 use Rattle.hq_laws.proofs.Turning.{mean-turned, tables-fit}
 use Rattle.hq_listing.specs.Listing.{listed, listing_plan}
 use Rattle.hq_listing.proofs.Form.{listing-well_formed}
 use Rattle.hq_listing.proofs.Means.{listing-plan-means}
-use Rattle.hq_listing.proofs.Tested.{listing-held}
+use Rattle.hq_listing.proofs.Guarded.{listing-guards}
 use Rattle.hq_whole.specs.Gathers.{gathered_of}
 use Rattle.hq_whole.specs.Choices.{way_of, first_of, joining_of, joinings, built_of, stands_by, all_stand}
 use Rattle.hq_whole.specs.Joined.{AreJoined}
 use Rattle.hq_whole.specs.Places.{Reordered}
-use Rattle.hq_whole.specs.Serves.{Serves}
+use Rattle.hq_whole.specs.Serves.{Serves, Means, Guards}
 use Rattle.hq_whole.specs.Tables.{Defs, kinds_by, keys_by, KeepRules}
 use Rattle.hq_whole.specs.declared.spreading.Built.{Built}
 use Rattle.hq_whole.specs.declared.step.Step.{Step}
@@ -64,26 +64,28 @@ bound-parts kinds q h =
 pub places-of : (kinds : ℕ → List Kind) (q : Query) → is_bound kinds q ≡ true → has_places q ≡ true
 places-of kinds q h = (bound-parts kinds q h).places
 
-held-stand : (kinds : ℕ → List Kind) (q : Query) → Bound kinds q → have_tests kinds q.conds 0 (with_tests kinds q.conds 0 q.sources) ≡ true
-held-stand kinds q b = tests-stand kinds q b.fits (few-held kinds q (low (length q.conds) 8 b.few))
+guards-few : (kinds : ℕ → List Kind) (q : Query) → Bound kinds q → fit_filters kinds (with_guards kinds q.conds 0 q.sources) ≡ true
+guards-few kinds q b = guards-fit kinds q b.fits (low (length q.conds) 8 b.few)
   where
     low : (m n : ℕ) → nat_le m n ≡ true → m ≤ n
     low m n h = grind arith
 
-gathered-plan-serves : (defs : Defs) (q : Query) → is_bound (kinds_by defs) q ≡ true → Serves defs q (gathered_plan (kinds_by defs) q (with_tests (kinds_by defs) q.conds 0 q.sources))
+-- with exactly the guards of a source exactly its tests stand above its Scan
+pub serves-from : (defs : Defs) (q : Query) (plan : Plan) → Means defs q plan → is_well_formed plan ≡ true → Guards defs q plan → Serves defs q plan
+serves-from defs q plan means form guards = record { means = means; form = form; scans = tested-from (kinds_by defs) q.conds 0 q.sources plan.slices guards; guards = guards }
+
+gathered-plan-serves : (defs : Defs) (q : Query) → is_bound (kinds_by defs) q ≡ true → Serves defs q (gathered_plan (kinds_by defs) q (with_guards (kinds_by defs) q.conds 0 q.sources))
 gathered-plan-serves defs q h =
     let b : Bound (kinds_by defs) q = bound-parts (kinds_by defs) q h in
-    let ss : List Source = with_tests (kinds_by defs) q.conds 0 q.sources in
-    let held : have_tests (kinds_by defs) q.conds 0 ss ≡ true = held-stand (kinds_by defs) q b in
-    let tables : q.sources ≡ tables_of ss = sym (tested-tables (kinds_by defs) q.conds 0 q.sources) in
-    record {
-      means = λ parts owner owned rules. gathered-plan-means (kinds_by defs) q ss parts owner tables owned rules.0 (sources-stand (kinds_by defs) q.conds 0 ss held);
-      form = gathered-well_formed (kinds_by defs) q ss tables b.fits b.room (sources-fit (kinds_by defs) q.conds 0 ss held);
-      scans = gathered-held (kinds_by defs) q;
-    }
+    let ss : List Source = with_guards (kinds_by defs) q.conds 0 q.sources in
+    let tables : q.sources ≡ tables_of ss = sym (guarded-tables (kinds_by defs) q.conds 0 q.sources) in
+    serves-from defs q (gathered_plan (kinds_by defs) q ss)
+    (λ parts owner owned rules. gathered-plan-means (kinds_by defs) q ss parts owner tables owned rules.0 (guards-imply (kinds_by defs) q))
+    (gathered-well_formed (kinds_by defs) q ss tables b.fits b.room (guards-few (kinds_by defs) q b))
+    (gathered-guards (kinds_by defs) q)
 
-pub gathered-serves : (defs : Defs) (q : Query) → is_bound (kinds_by defs) q ≡ true → Serves defs q (gathered_of (kinds_by defs) q (with_tests (kinds_by defs) q.conds 0 q.sources) q.sources)
-gathered-serves defs q h = subst (λ (ts : List ℕ). Serves defs q (gathered_of (kinds_by defs) q (with_tests (kinds_by defs) q.conds 0 q.sources) ts)) (tested-tables (kinds_by defs) q.conds 0 q.sources) (gathered-plan-serves defs q h)
+pub gathered-serves : (defs : Defs) (q : Query) → is_bound (kinds_by defs) q ≡ true → Serves defs q (gathered_of (kinds_by defs) q (with_guards (kinds_by defs) q.conds 0 q.sources) q.sources)
+gathered-serves defs q h = subst (λ (ts : List ℕ). Serves defs q (gathered_of (kinds_by defs) q (with_guards (kinds_by defs) q.conds 0 q.sources) ts)) (guarded-tables (kinds_by defs) q.conds 0 q.sources) (gathered-plan-serves defs q h)
 
 -- the steps, as the laws have them
 module _ (kinds : ℕ → List Kind) (conds : List Expr) where
@@ -91,7 +93,7 @@ module _ (kinds : ℕ → List Kind) (conds : List Expr) where
   joined-tables w [] = refl
   joined-tables w (s ∷ steps) = ap (λ l. s.table ∷ l) (joined-tables (w + length (kinds s.table)) steps)
 
-  joined-sources : (w : ℕ) (steps : List Step) → map source_of (joinings kinds conds w steps) ≡ with_tests kinds conds w (map (λ (s : Step). s.table) steps)
+  joined-sources : (w : ℕ) (steps : List Step) → map source_of (joinings kinds conds w steps) ≡ with_guards kinds conds w (map (λ (s : Step). s.table) steps)
   joined-sources w [] = refl
   joined-sources w (s ∷ steps) = ap (λ l. source_of (joining_of kinds conds w s) ∷ l) (joined-sources (w + length (kinds s.table)) steps)
 
@@ -120,8 +122,9 @@ module _ (kinds : ℕ → List Kind) (conds : List Expr) where
 -- what the laws of plans ask of sources that are joined by steps which may be taken
 record Joins (defs : Defs) (q : Query) (s : Source) (js : List Joining) : Type 0 where
   tables : q.sources ≡ s.table ∷ map (λ (j : Joining). j.table) js
-  same : sources_of s js ≡ with_tests (kinds_by defs) q.conds 0 q.sources
-  held : have_tests (kinds_by defs) q.conds 0 (sources_of s js) ≡ true
+  same : sources_of s js ≡ with_guards (kinds_by defs) q.conds 0 q.sources
+  implied : SourcesStand (kinds_by defs) q.conds 0 (sources_of s js)
+  fit : fit_filters (kinds_by defs) (sources_of s js) ≡ true
   equated : are_equated (kinds_by defs) q.conds (length (kinds_by defs s.table)) js ≡ true
   stay : sides_stay (kinds_by defs) (keys_by defs) (length (kinds_by defs s.table)) (own_homes (length (kinds_by defs s.table)) (keys_by defs s.table)) js ≡ true
 
@@ -134,12 +137,13 @@ joins-of defs q t steps b sources stand =
     let s : Source = first_of kinds q.conds t in
     let js : List Joining = joinings kinds q.conds w steps in
     let zero : w ≡ 0 + w = omega arith in
-    let same : sources_of s js ≡ with_tests kinds q.conds 0 q.sources =
-    ap (λ l. s ∷ l) (joined-sources kinds q.conds w steps ∙ ap (λ n. with_tests kinds q.conds n (map (λ (s : Step). s.table) steps)) zero) ∙ ap (with_tests kinds q.conds 0) (sym sources) in
+    let same : sources_of s js ≡ with_guards kinds q.conds 0 q.sources =
+    ap (λ l. s ∷ l) (joined-sources kinds q.conds w steps ∙ ap (λ n. with_guards kinds q.conds n (map (λ (s : Step). s.table) steps)) zero) ∙ ap (with_guards kinds q.conds 0) (sym sources) in
     record {
       tables = sources ∙ ap (λ l. t ∷ l) (sym (joined-tables kinds q.conds w steps));
       same = same;
-      held = ap (have_tests kinds q.conds 0) same ∙ held-stand kinds q b;
+      implied = subst (SourcesStand kinds q.conds 0) (sym same) (guards-imply kinds q);
+      fit = ap (fit_filters kinds) same ∙ guards-few kinds q b;
       equated = all-equated kinds q.conds (keys_by defs) w (own_homes w (keys_by defs t)) steps stand;
       stay = all-stay kinds q.conds (keys_by defs) w (own_homes w (keys_by defs t)) steps stand;
     }
@@ -149,12 +153,11 @@ spread-serves : (defs : Defs) (q : Query) (s : Source) (js : List Joining) (sent
 spread-serves defs q s js sent b j found some =
     let kinds : ℕ → List Kind = kinds_by defs in
     let w : ℕ = length (kinds s.table) in
-    record {
-      means = λ parts owner owned rules. spread-plan-means kinds (keys_by defs) sent q s js parts owner j.tables owned rules.0 rules.1 (equated-implied kinds q.conds w js j.equated)
-          (sources-stand kinds q.conds 0 (sources_of s js) j.held) (equated-placed kinds (keys_by defs) q.conds w (own_homes w (keys_by defs s.table)) js j.equated j.stay);
-      form = spread-well_formed kinds sent q s js j.tables b.fits b.room found some (equated-joinable kinds q s.table js j.tables b.fits j.equated) (sources-fit kinds q.conds 0 (sources_of s js) j.held);
-      scans = spread-held kinds sent q s js j.same;
-    }
+    serves-from defs q (spread_plan kinds sent q s js)
+    (λ parts owner owned rules. spread-plan-means kinds (keys_by defs) sent q s js parts owner j.tables owned rules.0 rules.1 (equated-implied kinds q.conds w js j.equated)
+    j.implied (equated-placed kinds (keys_by defs) q.conds w (own_homes w (keys_by defs s.table)) js j.equated j.stay))
+    (spread-well_formed kinds sent q s js j.tables b.fits b.room found some (equated-joinable kinds q s.table js j.tables b.fits j.equated) j.fit)
+    (spread-guards kinds sent q s js j.same)
 
 -- the kinds of a query's columns, where it is not grouped
 columns-there : (kinds : ℕ → List Kind) (q : Query) (out : List Kind) → q.grouped ≡ false → items_kinds (product_kinds kinds q) q.items ≡ Some out → is_some (query_kinds kinds q) ≡ true → query_kinds kinds q ≡ Some out
@@ -174,12 +177,11 @@ listing-serves : (defs : Defs) (q : Query) (s : Source) (js : List Joining) (out
 listing-serves defs q s js out b j plain found =
     let kinds : ℕ → List Kind = kinds_by defs in
     let w : ℕ = length (kinds s.table) in
-    record {
-      means = λ parts owner owned rules. listing-plan-means kinds (keys_by defs) out q s js parts owner plain j.tables owned rules.0 rules.1 (equated-implied kinds q.conds w js j.equated)
-          (sources-stand kinds q.conds 0 (sources_of s js) j.held) (equated-placed kinds (keys_by defs) q.conds w (own_homes w (keys_by defs s.table)) js j.equated j.stay);
-      form = listing-well_formed kinds out q s js plain j.tables found b.room (equated-joinable kinds q s.table js j.tables b.fits j.equated) (sources-fit kinds q.conds 0 (sources_of s js) j.held);
-      scans = listing-held q plain kinds out s js j.same;
-    }
+    serves-from defs q (listing_plan kinds out q s js)
+    (λ parts owner owned rules. listing-plan-means kinds (keys_by defs) out q s js parts owner plain j.tables owned rules.0 rules.1 (equated-implied kinds q.conds w js j.equated)
+    j.implied (equated-placed kinds (keys_by defs) q.conds w (own_homes w (keys_by defs s.table)) js j.equated j.stay))
+    (listing-well_formed kinds out q s js plain j.tables found b.room (equated-joinable kinds q s.table js j.tables b.fits j.equated) j.fit)
+    (listing-guards q plain kinds out s js j.same)
 
 sources-split : (sources : List ℕ) (steps : List Step) → 0 < length sources → map (λ (s : Step). s.table) steps ≡ drop 1 sources → sources ≡ slice_index sources 0 ∷ map (λ (s : Step). s.table) steps
 sources-split [] steps h e = absurd (omega arith)
@@ -219,11 +221,13 @@ listed-serves defs q out b plan bound plain items j e =
 
 -- in another order
 pub turned-serves : (defs : Defs) (q r : Query) (plan : Plan) → Reordered (kinds_by defs) q r → Serves defs r plan → Serves defs q plan
-turned-serves defs q r plan o served = record {
-  means = λ parts owner owned rules. served.means parts owner owned rules ∙ mean-turned (kinds_by defs) q r o.before o.first o.second o.after (all_rows parts owner) o.from o.to o.turned (tables-fit (kinds_by defs) parts owner rules.0);
-  form = served.form;
-  scans = λ p. served.scans p ∙ tests-turned (kinds_by defs) q r o.before o.first o.second o.after o.from o.to o.turned p;
-}
+turned-serves defs q r plan o served =
+    serves-from defs q plan
+    (λ parts owner owned rules. served.means parts owner owned rules ∙ mean-turned (kinds_by defs) q r o.before o.first o.second o.after (all_rows parts owner) o.from o.to o.turned (tables-fit (kinds_by defs) parts owner rules.0))
+    served.form
+    (λ p. served.guards p ∙ count-map p (guarded (kinds_by defs)) (with_guards (kinds_by defs) r.conds 0 r.sources)
+    ∙ guards-turned (kinds_by defs) q r o.before o.first o.second o.after o.from o.to o.turned (λ s. p (guarded (kinds_by defs) s))
+    ∙ sym (count-map p (guarded (kinds_by defs)) (with_guards (kinds_by defs) q.conds 0 q.sources)))
 
 pub turned-bound : (kinds : ℕ → List Kind) (q r : Query) → Reordered kinds q r → is_bound kinds q ≡ true → is_bound kinds r ≡ true
 turned-bound kinds q r o h =

@@ -1,7 +1,7 @@
 -- How the sources of a query meet.
 --     way_of way                        a way as the laws of plans have it
---     joinings kinds conds w steps      the steps as the laws have them, each with the tests that the conditions hold
---                                       on its table; the rows before the first one have w columns
+--     joinings kinds conds w steps      the steps as the laws have them, each with the guards of its table among the
+--                                       conditions' members; the rows before the first one have w columns
 --     first_of kinds conds t            table t as a first source
 --     built_of built                    what is built so far, as the laws have it
 --     stands_by w v own conds homes s   a step may be taken where the rows so far have w columns and lie by these keys
@@ -14,8 +14,8 @@ use Rattle.hq_algebra.specs.Rules.{is_empty}
 use Rattle.hq_algebra.specs.Plans.{is_short}
 use Rattle.hq_laws.specs.Equated.{is_place, equates, keys_equated, moves_rows}
 use Rattle.hq_laws.specs.Placed.{stays_by, homes_after}
+use Rattle.hq_laws.specs.Guards.{guards_of}
 use Rattle.hq_laws.specs.Sources.{Source}
-use Rattle.hq_laws.specs.Tests.{tests_of}
 use Rattle.hq_laws.specs.Spread as law
 use Rattle.hq_laws.specs.Spread.{Joining}
 use Rattle.hq_whole.specs.declared.step.Way.{Way}
@@ -31,12 +31,12 @@ way_of way.MoveLeft = law.MoveLeft
 way_of way.MoveRight = law.MoveRight
 way_of way.Stay = law.Stay
 
--- a first source, with the tests that the conditions hold on it
+-- a first source, with its guards
 abbrev pub first_of : (ℕ → List Kind) → List Expr → ℕ → Source
-first_of kinds conds t = record { table = t; tests = tests_of (kinds t) 0 conds }
+first_of kinds conds t = record { table = t; tests = guards_of (kinds t) 0 conds }
 
 abbrev pub joining_of : (ℕ → List Kind) → List Expr → ℕ → Step → Joining
-joining_of kinds conds w s = record { table = s.table; tests = tests_of (kinds s.table) w conds; left_keys = s.left_keys; right_keys = s.right_keys; way = way_of s.way }
+joining_of kinds conds w s = record { table = s.table; tests = guards_of (kinds s.table) w conds; left_keys = s.left_keys; right_keys = s.right_keys; way = way_of s.way }
 
 abbrev pub joinings : (ℕ → List Kind) → List Expr → ℕ → List Step → List Joining
 joinings kinds conds w [] = []

@@ -2,7 +2,7 @@
 ghost use Rattle.std.specs.Prelude.{◌≡◌, ◌<◌, ◌≤◌, [], IfOk, IsTrue, length, map};
 ghost use Rattle.hq_algebra.specs.Bound.{has_places};
 ghost use Rattle.hq_laws.specs.Gathered as spec;
-ghost use Rattle.hq_laws.specs.Tests.{with_tests};
+ghost use Rattle.hq_laws.specs.Guards.{with_guards};
 ghost use Rattle.hq_whole.specs.Gathers.{gathered_of};
 ghost use Rattle.hq_whole.specs.Tables as tables;
 
@@ -14,10 +14,10 @@ use hq_algebra::{Expr, Keys16, Motion, Op, Plan, Query, Slices};
 use hq_value::{NoMemory, TableDef};
 use std::alloc::Global;
 
-/// The plan that gathers each source by itself, under its tests.
+/// The plan that gathers each source by itself, under its guards.
 pub fn gathered(alloc: Global, query: &Query, defs: &[(u32, TableDef)]) -> Result<Plan, NoMemory>
     requires { IsTrue (has_places query.now) }
-    ensures { IfOk result (λ plan. plan ≡ gathered_of (tables.kinds_by defs.now) query.now (with_tests (tables.kinds_by defs.now) query.now.conds 0 query.now.sources) query.now.sources) }
+    ensures { IfOk result (λ plan. plan ≡ gathered_of (tables.kinds_by defs.now) query.now (with_guards (tables.kinds_by defs.now) query.now.conds 0 query.now.sources) query.now.sources) }
 {
     let sources = query.sources.as_slice();
     let product = product(alloc, sources, defs)?;
@@ -46,7 +46,7 @@ fn scans(
     defs: &[(u32, TableDef)],
 ) -> Result<Slices, NoMemory>
     requires { length sources.now ≤ 8 }
-    ensures { IfOk result (λ slices. slices ≡ map (spec.scan_slice (tables.kinds_by defs.now)) (with_tests (tables.kinds_by defs.now) conds.now 0 sources.now)) }
+    ensures { IfOk result (λ slices. slices ≡ map (spec.scan_slice (tables.kinds_by defs.now)) (with_guards (tables.kinds_by defs.now) conds.now 0 sources.now)) }
 {
     let mut slices = Slices::new(alloc);
     let mut width = 0;

@@ -7,7 +7,7 @@ ghost use Rattle.hq_algebra.specs.Plans.{is_well_formed};
 ghost use Rattle.hq_laws.specs.Room.{kinds_sent, is_sendable};
 ghost use Rattle.hq_whole.specs.Tables as tables;
 ghost use Rattle.hq_whole.specs.Joined.{AreJoined};
-ghost use Rattle.hq_whole.specs.Serves.{Serves, Means, Scans};
+ghost use Rattle.hq_whole.specs.Serves.{Serves, Means, Scans, Guards};
 
 use crate::choosing::next_source;
 use crate::gathering::gathered;
@@ -21,8 +21,9 @@ use std::alloc::Global;
 
 /// A plan of a query that is bound over these definitions, in which all columns of its sources travel. It means what
 /// the query means, and faults alike, over every split into buckets that keeps the tables' rules and for every
-/// assignment of the buckets. Each source stands in exactly one Scan, directly under exactly the tests that the query's
-/// conditions hold on it. The sizes, by place in `defs`, steer choices and change no meaning.
+/// assignment of the buckets. Each source stands in exactly one Scan, directly under a Filter which holds exactly the
+/// tests that the query's conditions hold on it, and exactly the members of the conditions that name it alone, so that
+/// rows which these exclude do not travel. The sizes, by place in `defs`, steer choices and change no meaning.
 pub fn plan_whole(
     alloc: Global,
     query: &Query,
@@ -33,6 +34,7 @@ pub fn plan_whole(
     ensures means { IfOk result (λ plan. Means defs.now query.now plan) }
     ensures form { IfOk result (λ plan. IsTrue (is_well_formed plan)) }
     ensures scans { IfOk result (λ plan. Scans defs.now query.now plan) }
+    ensures guards { IfOk result (λ plan. Guards defs.now query.now plan) }
 {
     match ordered(alloc, query, defs, sizes, 0) {
         Ok(plan) => Ok(plan),

@@ -1,22 +1,21 @@
-//! A source of a plan: its Scan, under the tests that the conditions hold on it.
-ghost use Rattle.std.specs.Prelude.{◌≡◌, ◌∷◌, [], ◌+◌, ◌≤◌, ◌<◌, ◌-◌, IfOk, None, slice_get, length};
-ghost use Rattle.std.specs.Option.{option_copied};
+//! A source of a plan: its Scan, under its guards, which are the members of the conditions that name it alone.
+ghost use Rattle.std.specs.Prelude.{◌≡◌, ◌∷◌, [], ◌&&◌, ◌||◌, IfOk, None, length};
+ghost use Rattle.hq_algebra.specs.Shape as shape;
+ghost use Rattle.hq_laws.specs.Guards as guards;
 ghost use Rattle.hq_laws.specs.Sources as law;
 ghost use Rattle.hq_laws.specs.Tests as tests;
-ghost use Rattle.hq_laws.specs.Turned as turned;
 ghost use Rattle.hq_whole.specs.Tables as tables;
-ghost use Rattle.hq_algebra.specs.Steps as steps;
-ghost use Rattle.hq_whole.specs.Conjoined.{with_cond, conjoined, lowered_tests, under_filter, is_ranged_at};
+ghost use Rattle.hq_whole.specs.Conjoined.{with_cond, conjoined, lowered_guards, under_filter, is_within};
 
 use crate::making::{and, filter};
 use crate::renaming::{Places, renamed};
 use crate::tables::kinds_by;
 use hq_algebra::{Expr, Op};
-use hq_value::{Kind, Kinds, NoMemory, TableDef, Value};
+use hq_value::{Kind, NoMemory, TableDef};
 use std::alloc::Global;
 
-/// The Scan of a table, directly under one Filter of the tests that the conditions hold on it, where there are some.
-/// The columns of the sources before it are `width`.
+/// The Scan of a table, directly under one Filter of its guards, where there are some. The columns of the sources before
+/// it are `width`.
 pub fn source_op(
     alloc: Global,
     conds: &[Expr],
@@ -24,10 +23,10 @@ pub fn source_op(
     width: u16,
     table: u32,
 ) -> Result<Op, NoMemory>
-    ensures { IfOk result (λ op. op ≡ law.source_op (tables.kinds_by defs.now) table (tests.tests_of (tables.kinds_by defs.now table) width conds.now)) }
+    ensures { IfOk result (λ op. op ≡ law.source_op (tables.kinds_by defs.now) table (guards.guards_of (tables.kinds_by defs.now table) width conds.now)) }
 {
     let kinds = kinds_by(alloc, defs, table)?;
-    let cond = all_tests(alloc, kinds.as_slice(), width, conds)?;
+    let cond = all_guards(alloc, kinds.as_slice(), width, conds)?;
     filtered(alloc, cond, Op::Scan { table, kinds })
 }
 
@@ -40,14 +39,14 @@ fn filtered(alloc: Global, cond: Option<Expr>, input: Op) -> Result<Op, NoMemory
     }
 }
 
-// The tests that the conditions hold on a source, as one condition.
-fn all_tests(
+// The guards of a source among the members of the conditions, as one condition.
+fn all_guards(
     alloc: Global,
     kinds: &[Kind],
     width: u16,
     conds: &[Expr],
 ) -> Result<Option<Expr>, NoMemory>
-    ensures { IfOk result (λ found. found ≡ conjoined (tests.tests_of kinds.now width conds.now) None) }
+    ensures { IfOk result (λ found. found ≡ conjoined (guards.guards_of kinds.now width conds.now) None) }
 {
     let mut found = None;
     let mut at = conds.len();
@@ -60,8 +59,8 @@ fn all_tests(
     Ok(found)
 }
 
-// The tests among the members of a condition, before the others. The call is nested at most as deep as the condition.
-#[tactic(auto, using(crate::proofs::Conjoining::test_nodes))]
+// The guards among the members of a condition, before the others. The call is nested at most as deep as the condition.
+#[tactic(auto, using(crate::proofs::Conjoining::member_nodes))]
 fn with_members(
     alloc: Global,
     kinds: &[Kind],
@@ -69,38 +68,38 @@ fn with_members(
     e: &Expr,
     others: Option<Expr>,
 ) -> Result<Option<Expr>, NoMemory>
-    ensures { IfOk result (λ found. found ≡ conjoined (lowered_tests kinds.now width (tests.members e.now)) others) }
+    ensures { IfOk result (λ found. found ≡ conjoined (lowered_guards kinds.now width (tests.members e.now)) others) }
 {
     match e {
         Expr::And { left, right } => {
             let others = with_members(alloc, kinds, width, right.get(), others)?;
             with_members(alloc, kinds, width, left.get(), others)
         }
-        Expr::Column(_) => Ok(others),
-        Expr::Literal(_) => Ok(others),
-        Expr::Arith { .. } => Ok(others),
-        Expr::Compare { .. } => with_test(alloc, kinds, width, e, others),
-        Expr::Or { .. } => Ok(others),
-        Expr::Not(_) => Ok(others),
-        Expr::IsNull(_) => Ok(others),
+        Expr::Column(_) => with_guard(alloc, kinds, width, e, others),
+        Expr::Literal(_) => with_guard(alloc, kinds, width, e, others),
+        Expr::Arith { .. } => with_guard(alloc, kinds, width, e, others),
+        Expr::Compare { .. } => with_guard(alloc, kinds, width, e, others),
+        Expr::Or { .. } => with_guard(alloc, kinds, width, e, others),
+        Expr::Not(_) => with_guard(alloc, kinds, width, e, others),
+        Expr::IsNull(_) => with_guard(alloc, kinds, width, e, others),
     }
 }
 
-// An expression, where it is a test, before the others.
-fn with_test(
+// An expression, where it is a guard, before the others.
+fn with_guard(
     alloc: Global,
     kinds: &[Kind],
     width: u16,
     e: &Expr,
     others: Option<Expr>,
 ) -> Result<Option<Expr>, NoMemory>
-    ensures { IfOk result (λ found. found ≡ conjoined (lowered_tests kinds.now width (e.now ∷ [])) others) }
+    ensures { IfOk result (λ found. found ≡ conjoined (lowered_guards kinds.now width (e.now ∷ [])) others) }
 {
-    if !is_on(kinds, width, e) {
+    if !is_guard(kinds, width, e) {
         return Ok(others);
     }
-    let test = renamed(alloc, &Places::Lowered(width), e)?;
-    before_others(alloc, test, others)
+    let guard = renamed(alloc, &Places::Lowered(width), e)?;
+    before_others(alloc, guard, others)
 }
 
 fn before_others(alloc: Global, cond: Expr, others: Option<Expr>) -> Result<Option<Expr>, NoMemory>
@@ -115,42 +114,75 @@ fn before_others(alloc: Global, cond: Expr, others: Option<Expr>) -> Result<Opti
     }
 }
 
-// It compares a column of the source that is a Bool or an Int with a value.
-fn is_on(kinds: &[Kind], width: u16, e: &Expr) -> bool
-    ensures { result ≡ tests.is_on kinds.now width e.now }
+// It names a column of the source, whose columns begin at place `width`, and no other source's.
+fn is_guard(kinds: &[Kind], width: u16, e: &Expr) -> bool
+    ensures { result ≡ guards.is_guard kinds.now width e.now }
+{
+    both(has_column(e), is_inside(kinds, width, e))
+}
+
+fn both(first: bool, second: bool) -> bool
+    ensures { result ≡ (first && second) }
+{
+    first && second
+}
+
+fn either(first: bool, second: bool) -> bool
+    ensures { result ≡ (first || second) }
+{
+    first || second
+}
+
+// The call is nested at most as deep as the expression.
+#[tactic(auto, using(crate::proofs::Nodes::column_nodes))]
+fn has_column(e: &Expr) -> bool
+    ensures { result ≡ shape.has_column e.now }
 {
     match e {
-        Expr::Compare { left, right, .. } => are_on(kinds, width, left.get(), right.get()),
-        _ => false,
+        Expr::Column(_) => true,
+        Expr::Literal(_) => false,
+        Expr::Arith { left, right, .. } => either(has_column(left.get()), has_column(right.get())),
+        Expr::Compare { left, right, .. } => {
+            either(has_column(left.get()), has_column(right.get()))
+        }
+        Expr::And { left, right } => either(has_column(left.get()), has_column(right.get())),
+        Expr::Or { left, right } => either(has_column(left.get()), has_column(right.get())),
+        Expr::Not(of) => has_column(of.get()),
+        Expr::IsNull(of) => has_column(of.get()),
     }
 }
 
-fn are_on(kinds: &[Kind], width: u16, left: &Expr, right: &Expr) -> bool
-    ensures { result ≡ tests.are_on kinds.now width (law.column_of left.now) (law.literal_of right.now) }
+// Each column that it names is the source's. The call is nested at most as deep as the expression.
+#[tactic(auto, using(crate::proofs::Nodes::inside_nodes))]
+fn is_inside(kinds: &[Kind], width: u16, e: &Expr) -> bool
+    ensures { result ≡ guards.is_inside width (length kinds.now) e.now }
 {
-    match left {
-        Expr::Column(place) => match right {
-            Expr::Literal(value) => is_ranged_at(kinds, width, *place) && !is_null(value),
-            _ => false,
-        },
-        _ => false,
+    match e {
+        Expr::Column(place) => is_within(kinds, width, *place),
+        Expr::Literal(_) => true,
+        Expr::Arith { left, right, .. } => both(
+            is_inside(kinds, width, left.get()),
+            is_inside(kinds, width, right.get()),
+        ),
+        Expr::Compare { left, right, .. } => both(
+            is_inside(kinds, width, left.get()),
+            is_inside(kinds, width, right.get()),
+        ),
+        Expr::And { left, right } => both(
+            is_inside(kinds, width, left.get()),
+            is_inside(kinds, width, right.get()),
+        ),
+        Expr::Or { left, right } => both(
+            is_inside(kinds, width, left.get()),
+            is_inside(kinds, width, right.get()),
+        ),
+        Expr::Not(of) => is_inside(kinds, width, of.get()),
+        Expr::IsNull(of) => is_inside(kinds, width, of.get()),
     }
 }
 
-fn is_ranged_at(kinds: &[Kind], width: u16, place: u16) -> bool
-    ensures { result ≡ is_ranged_at kinds.now width place }
+fn is_within(kinds: &[Kind], width: u16, place: u16) -> bool
+    ensures { result ≡ is_within width (length kinds.now) place }
 {
-    if place < width {
-        return false;
-    }
-    match kinds.get((place - width) as usize) {
-        Some(kind) => !matches!(kind, Kind::Text),
-        None => false,
-    }
-}
-
-fn is_null(value: &Value) -> bool
-    ensures { result ≡ steps.is_null value.now }
-{
-    matches!(value, Value::Null)
+    width <= place && ((place - width) as usize) < kinds.len()
 }

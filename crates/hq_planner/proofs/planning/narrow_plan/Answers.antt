@@ -8,4 +8,4 @@ plan_whole-requires c =
 pub returns : goal.returns
 returns c =
     planned-serves c.args.defs.now c.in_ok-taking.taking.tables.items c.args.query.now c.in_ok-new.new c.in_ok-taking.taking.sources.items c.in_ok-new.ensures c.as_slice.result.now c.as_slice-3.result.now c.in_ok-narrow.narrow c.in_ok-plan.plan
-    c.as_slice.ensures.value c.as_slice-3.ensures.value c.in_ok-narrow.ensures.means c.in_ok-narrow.ensures.form c.in_ok-narrow.ensures.scans c.in_ok-plan.ensures
+    c.as_slice.ensures.value c.as_slice-3.ensures.value c.in_ok-narrow.ensures.means c.in_ok-narrow.ensures.form c.in_ok-narrow.ensures.guards c.in_ok-plan.ensures
