@@ -1,0 +1,2 @@
+-- The plans of the slices.
+pub mod Works
