@@ -4,7 +4,6 @@ use Rattle.std.proofs.lemmas.List.{append-nil, length-drop, length-set, drop_mor
 use Rattle.std.specs.List.{AllByRecursion}
 use Rattle.std.proofs.lemmas.List.Elements.{filter-append, All-from_recursion, recursion_from_All}
 use Rattle.std.proofs.lemmas.Bool.{eqb-true, eq-eqb, cases_eq}
-use Rattle.std.proofs.Common.{FoldHasher}
 use Rattle.hq_meaning.specs.Rows.{Row}
 use Rattle.hq_meaning.specs.Groups.{key_of}
 use Rattle.hq_meaning.specs.Operators.{matches, beside}
@@ -49,12 +48,12 @@ abbrev Behind : ℕ → List ℕ → Type 0
 Behind p [] = Unit {0}
 Behind p (q ∷ qs) = (p < q) × Behind p qs
 
-module _ (start : FoldHasher) (count : ℕ) (keys : List ℕ) (c : ℕ) where
-  behind : (p from : ℕ) → p < from → (rows : List Row) → Behind p (places start count keys c from rows)
+module _ (count : ℕ) (keys : List ℕ) (c : ℕ) where
+  behind : (p from : ℕ) → p < from → (rows : List Row) → Behind p (places count keys c from rows)
   behind p from lt [] = tt
-  behind p from lt (r ∷ rows) = by (chain_by start count (key_of keys r) == c) (behind p (suc from) (omega (arith, lt)) rows)
+  behind p from lt (r ∷ rows) = by (chain_by count (key_of keys r) == c) (behind p (suc from) (omega (arith, lt)) rows)
     where
-      by : (b : Bool) → Behind p (places start count keys c (suc from) rows) → Behind p (cond b (from ∷ places start count keys c (suc from) rows) (places start count keys c (suc from) rows))
+      by : (b : Bool) → Behind p (places count keys c (suc from) rows) → Behind p (cond b (from ∷ places count keys c (suc from) rows) (places count keys c (suc from) rows))
       by true rest = (lt, rest)
       by false rest = rest
 
@@ -74,17 +73,17 @@ begins next p q [] lt b l = omega (arith, lt, l)
 begins next p q (r ∷ qs) lt b l = omega (arith, l.0, b.0)
 
 -- one row more is linked before the others
-pub linked-more : (start : FoldHasher) (keys : List ℕ) (rows : List Row) (first next : List ℕ) (p chain : ℕ) (d : Row) → p < length rows → chain < length first
-    → chain ≡ chain_by start (length first) (key_of keys (get_or rows p d))
-    → AreChained start keys rows first next (p + 1) → AreChained start keys rows (slice_set first chain p) (slice_set next p (get_or first chain 0)) p
-linked-more start keys rows first next p chain d low inside is before =
+pub linked-more : (keys : List ℕ) (rows : List Row) (first next : List ℕ) (p chain : ℕ) (d : Row) → p < length rows → chain < length first
+    → chain ≡ chain_by (length first) (key_of keys (get_or rows p d))
+    → AreChained keys rows first next (p + 1) → AreChained keys rows (slice_set first chain p) (slice_set next p (get_or first chain 0)) p
+linked-more keys rows first next p chain d low inside is before =
     let firsts = length-set first chain p in
     let nexts = length-set next p (get_or first chain 0) in
     record {
       some = omega (arith, firsts, before.some);
       long = nexts ∙ before.long;
       rises = λ q lt. rising q (omega (arith, nexts, lt));
-      chained = λ c lt. linked _ _ _ (subst (λ n. Links (slice_set next p (get_or first chain 0)) (get_or (slice_set first chain p) c 0) (places start n keys c p (drop p rows))) (sym firsts) (each c (omega (arith, firsts, lt))));
+      chained = λ c lt. linked _ _ _ (subst (λ n. Links (slice_set next p (get_or first chain 0)) (get_or (slice_set first chain p) c 0) (places n keys c p (drop p rows))) (sym firsts) (each c (omega (arith, firsts, lt))));
     }
   where
     on : p + 1 ≡ suc p
@@ -94,10 +93,10 @@ linked-more start keys rows first next p chain d low inside is before =
     here = omega (arith, low, before.long)
 
     rest : ℕ → List ℕ
-    rest c = places start (length first) keys c (p + 1) (drop (p + 1) rows)
+    rest c = places (length first) keys c (p + 1) (drop (p + 1) rows)
 
     later : (c : ℕ) → Behind p (rest c)
-    later c = behind start (length first) keys c p (p + 1) (omega arith) (drop (p + 1) rows)
+    later c = behind (length first) keys c p (p + 1) (omega arith) (drop (p + 1) rows)
 
     rising : (q : ℕ) → q < length next → q < get_or (slice_set next p (get_or first chain 0)) q 0
     rising q lt = elim (cases_eq q p) [
@@ -105,30 +104,30 @@ linked-more start keys rows first next p chain d low inside is before =
       | inr n ↦ subst (λ m. q < m) (sym (get_or-set_other next p q (get_or first chain 0) 0 n)) (before.rises q lt)
     ]
 
-    each : (c : ℕ) → c < length first → Links (slice_set next p (get_or first chain 0)) (get_or (slice_set first chain p) c 0) (places start (length first) keys c p (drop p rows))
-    each c lt = subst (λ l. Links (slice_set next p (get_or first chain 0)) (get_or (slice_set first chain p) c 0) (places start (length first) keys c p l)) (sym (drop_more rows p d low))
-        (by (chain_by start (length first) (key_of keys (get_or rows p d)) == c) refl)
+    each : (c : ℕ) → c < length first → Links (slice_set next p (get_or first chain 0)) (get_or (slice_set first chain p) c 0) (places (length first) keys c p (drop p rows))
+    each c lt = subst (λ l. Links (slice_set next p (get_or first chain 0)) (get_or (slice_set first chain p) c 0) (places (length first) keys c p l)) (sym (drop_more rows p d low))
+        (by (chain_by (length first) (key_of keys (get_or rows p d)) == c) refl)
       where
-        by : (b : Bool) → (chain_by start (length first) (key_of keys (get_or rows p d)) == c) ≡ b
-            → Links (slice_set next p (get_or first chain 0)) (get_or (slice_set first chain p) c 0) (cond b (p ∷ places start (length first) keys c (suc p) (drop (p + 1) rows)) (places start (length first) keys c (suc p) (drop (p + 1) rows)))
+        by : (b : Bool) → (chain_by (length first) (key_of keys (get_or rows p d)) == c) ≡ b
+            → Links (slice_set next p (get_or first chain 0)) (get_or (slice_set first chain p) c 0) (cond b (p ∷ places (length first) keys c (suc p) (drop (p + 1) rows)) (places (length first) keys c (suc p) (drop (p + 1) rows)))
         by true e =
             let same : chain ≡ c = is ∙ eqb-true _ _ e in (
               ap (λ n. get_or (slice_set first chain p) n 0) (sym same) ∙ get_or-set_same first chain p 0 inside,
               omega (arith, here, length-set next p (get_or first chain 0)),
-              subst (λ n. Links (slice_set next p (get_or first chain 0)) n (places start (length first) keys c (suc p) (drop (p + 1) rows))) (sym (get_or-set_same next p (get_or first chain 0) 0 here))
-                  (subst (λ f. Links (slice_set next p (get_or first chain 0)) (get_or first chain 0) (places start (length first) keys c f (drop (p + 1) rows))) on
+              subst (λ n. Links (slice_set next p (get_or first chain 0)) n (places (length first) keys c (suc p) (drop (p + 1) rows))) (sym (get_or-set_same next p (get_or first chain 0) 0 here))
+                  (subst (λ f. Links (slice_set next p (get_or first chain 0)) (get_or first chain 0) (places (length first) keys c f (drop (p + 1) rows))) on
                   (kept next p (get_or first chain 0) (get_or first chain 0) (rest c) (later c) (subst (λ n. Links next (get_or first n 0) (rest c)) (sym same) (links next _ _ (before.chained c lt))))),
             )
         by false e =
-            subst (λ n. Links (slice_set next p (get_or first chain 0)) n (places start (length first) keys c (suc p) (drop (p + 1) rows)))
+            subst (λ n. Links (slice_set next p (get_or first chain 0)) n (places (length first) keys c (suc p) (drop (p + 1) rows)))
             (sym (get_or-set_other first chain c p 0 (λ s. let u : true ≡ false = sym (eq-eqb chain c (sym s)) ∙ ap (λ n. n == c) is ∙ e in cc)))
-            (subst (λ f. Links (slice_set next p (get_or first chain 0)) (get_or first c 0) (places start (length first) keys c f (drop (p + 1) rows))) on
+            (subst (λ f. Links (slice_set next p (get_or first chain 0)) (get_or first c 0) (places (length first) keys c f (drop (p + 1) rows))) on
             (kept next p (get_or first chain 0) (get_or first c 0) (rest c) (later c) (links next _ _ (before.chained c lt))))
 
 -- nothing is linked yet
-pub nothing-linked : (start : FoldHasher) (keys : List ℕ) (rows : List Row) (count : ℕ) → 0 < count
-    → AreChained start keys rows (replicate count (length rows)) (replicate (length rows) (length rows)) (length rows)
-nothing-linked start keys rows count some =
+pub nothing-linked : (keys : List ℕ) (rows : List Row) (count : ℕ) → 0 < count
+    → AreChained keys rows (replicate count (length rows)) (replicate (length rows) (length rows)) (length rows)
+nothing-linked keys rows count some =
     let firsts = length-replicate count (length rows) in
     let nexts = length-replicate (length rows) (length rows) in
     record {
@@ -137,14 +136,14 @@ nothing-linked start keys rows count some =
       rises = λ q lt. let at = get_or-replicate (length rows) q (length rows) 0 (omega (arith, nexts, lt)) in omega (arith, nexts, lt, at);
       chained = λ c lt.
           let at = get_or-replicate count c (length rows) 0 (omega (arith, firsts, lt)) in
-          linked _ _ _ (subst (λ l. Links (replicate (length rows) (length rows)) (get_or (replicate count (length rows)) c 0) (places start (length (replicate count (length rows))) keys c (length rows) l)) (sym (drop_all (length rows) rows (omega arith))) (at ∙ sym nexts));
+          linked _ _ _ (subst (λ l. Links (replicate (length rows) (length rows)) (get_or (replicate count (length rows)) c 0) (places (length (replicate count (length rows))) keys c (length rows) l)) (sym (drop_all (length rows) rows (omega arith))) (at ∙ sym nexts));
     }
 
 -- a chain has each row that passes a test which only its rows pass
-module _ (start : FoldHasher) (count : ℕ) (keys : List ℕ) (c : ℕ) (m : Row → Bool) (only : (r : Row) → m r ≡ true → chain_by start count (key_of keys r) ≡ c) (rows : List Row) where
-  passing : (xs : List Row) (a : ℕ) → drop a rows ≡ xs → filter m (map (row_at rows) (places start count keys c a xs)) ≡ filter m xs
+module _ (count : ℕ) (keys : List ℕ) (c : ℕ) (m : Row → Bool) (only : (r : Row) → m r ≡ true → chain_by count (key_of keys r) ≡ c) (rows : List Row) where
+  passing : (xs : List Row) (a : ℕ) → drop a rows ≡ xs → filter m (map (row_at rows) (places count keys c a xs)) ≡ filter m xs
   passing [] a e = refl
-  passing (x ∷ xs) a e = by (chain_by start count (key_of keys x) == c) refl (passing xs (suc a) after)
+  passing (x ∷ xs) a e = by (chain_by count (key_of keys x) == c) refl (passing xs (suc a) after)
     where
       some : a < length rows
       some = let n : length (drop a rows) ≡ suc (length xs) = ap length e in let l = length-drop a rows in omega (arith, n, l)
@@ -159,9 +158,9 @@ module _ (start : FoldHasher) (count : ℕ) (keys : List ℕ) (c : ℕ) (m : Row
       after = let on : a + 1 ≡ suc a = omega arith in ap (λ n. drop n rows) (sym on) ∙ tails (row_at rows a) x (drop (a + 1) rows) xs parts
 
       rest : List ℕ
-      rest = places start count keys c (suc a) xs
+      rest = places count keys c (suc a) xs
 
-      by : (b : Bool) → (chain_by start count (key_of keys x) == c) ≡ b → filter m (map (row_at rows) rest) ≡ filter m xs
+      by : (b : Bool) → (chain_by count (key_of keys x) == c) ≡ b → filter m (map (row_at rows) rest) ≡ filter m xs
           → filter m (map (row_at rows) (cond b (a ∷ rest) rest)) ≡ cond (m x) (x ∷ filter m xs) (filter m xs)
       by true e same = (λ i. cond (m (at i)) (at i ∷ same i) (same i))
       by false e same = same ∙ out (m x) refl
@@ -170,14 +169,14 @@ module _ (start : FoldHasher) (count : ℕ) (keys : List ℕ) (c : ℕ) (m : Row
           out true p = let u : true ≡ false = sym (eq-eqb _ _ (only x p)) ∙ e in cc
           out false p = refl
 
-pub chain-inside : (start : FoldHasher) (count : ℕ) (key : Row) → 0 < count → chain_by start count key < count
-chain-inside start count key some = omega (arith, some)
+pub chain-inside : (count : ℕ) (key : Row) → 0 < count → chain_by count key < count
+chain-inside count key some = omega (arith, some)
 
 -- a left row matches only rows of the chain of its key
-pub chain-is-all : (start : FoldHasher) (count : ℕ) (lk rk : List ℕ) (l : Row) (rows : List Row)
-    → beside lk rk (map (row_at rows) (places start count rk (chain_by start count (key_of lk l)) 0 rows)) l ≡ beside lk rk rows l
-chain-is-all start count lk rk l rows =
-    ap (map (λ (r : Row). l ++ r)) (passing start count rk (chain_by start count (key_of lk l)) (matches lk rk l) (λ r m. ap (chain_by start count) (sym (matching-keys lk rk l r m))) rows rows 0 refl)
+pub chain-is-all : (count : ℕ) (lk rk : List ℕ) (l : Row) (rows : List Row)
+    → beside lk rk (map (row_at rows) (places count rk (chain_by count (key_of lk l)) 0 rows)) l ≡ beside lk rk rows l
+chain-is-all count lk rk l rows =
+    ap (map (λ (r : Row). l ++ r)) (passing count rk (chain_by count (key_of lk l)) (matches lk rk l) (λ r m. ap (chain_by count) (sym (matching-keys lk rk l r m))) rows rows 0 refl)
 
 pub beside-append : (lk rk : List ℕ) (l : Row) (xs ys : List Row) → beside lk rk (xs ++ ys) l ≡ beside lk rk xs l ++ beside lk rk ys l
 beside-append lk rk l xs ys = ap (map (λ (r : Row). l ++ r)) (filter-append (matches lk rk l) xs ys) ∙ map-append (λ (r : Row). l ++ r) (filter (matches lk rk l) xs) (filter (matches lk rk l) ys)

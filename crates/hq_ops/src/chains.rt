@@ -2,11 +2,16 @@
 ghost use Rattle.std.specs.Prelude.{◌≡◌, ◌<◌, ◌+◌, length, get_or, replicate, IfOk};
 ghost use Rattle.hq_algebra.specs.Eval.{column};
 ghost use Rattle.hq_meaning.specs.Groups.{key_of};
-ghost use Rattle.hq_ops.specs.Chains.{fed, hash_from, chain_by, AreChained};
+ghost use Rattle.hq_ops.specs.Chains.{digest, number_for, fed, hash_from, chain_by, begins_at, AreChained};
 
 use hq_value::{NoMemory, Row, Value};
 use std::alloc::Global;
 use std::hash::{FoldHasher, Hash, Hasher};
+
+// Of all hashes of 64 bits the upper halves are mixed best.
+const UPPER_HALF: u64 = 4_294_967_296;
+
+const HASH_FACTOR: u64 = 11_400_714_819_323_198_485;
 
 /// Rows, and for each hash of their keys a chain that goes from place to place over the rows that have it, ascending. A
 /// place past the end ends a chain.
@@ -14,10 +19,9 @@ use std::hash::{FoldHasher, Hash, Hasher};
 pub struct Chains<'a> {
     pub keys: &'a [u16],
     pub rows: &'a [Row],
-    start: FoldHasher,
     first: Vec<usize>,
     next: Vec<usize>,
-    ghost chained: { AreChained start keys.now rows.now first.items next.items 0 },
+    ghost chained: { AreChained keys.now rows.now first.items next.items 0 },
 }
 
 impl<'a> Chains<'a> {
@@ -26,15 +30,13 @@ impl<'a> Chains<'a> {
         ensures keys { IfOk result (λ chains. chains.keys.now ≡ keys.now) }
         ensures rows { IfOk result (λ chains. chains.rows.now ≡ rows.now) }
     {
-        let start = FoldHasher::default();
         let end = rows.len();
         let mut first = filled(alloc, end.max(1), end)?;
         let mut next = filled(alloc, end, end)?;
-        link_all(start, keys, rows, &mut first, &mut next);
+        link_all(keys, rows, &mut first, &mut next);
         Ok(Chains {
             keys,
             rows,
-            start,
             first,
             next,
         })
@@ -42,9 +44,9 @@ impl<'a> Chains<'a> {
 
     /// The first place of the chain of a key: that of the columns at these places of a row.
     pub fn first_of(&self, keys: &[u16], row: &Row) -> usize
-        ensures { result ≡ get_or self.now.first.items (chain_by self.now.start (length self.now.first.items) (key_of keys.now row.now)) 0 }
+        ensures { result ≡ begins_at keys.now self.now.first.items row.now }
     {
-        let chain = chain_of(self.start, self.first.len(), keys, row);
+        let chain = chain_of(self.first.len(), keys, row);
         self.first[chain]
     }
 
@@ -69,68 +71,79 @@ fn filled(alloc: Global, count: usize, value: usize) -> Result<Vec<usize>, NoMem
 }
 
 // Links all rows, the last one first, so that each chain ascends.
-fn link_all(
-    start: FoldHasher,
-    keys: &[u16],
-    rows: &[Row],
-    first: &mut Vec<usize>,
-    next: &mut Vec<usize>,
-)
-    requires { AreChained start keys.now rows.now first.old.items next.old.items (length rows.now) }
-    ensures { AreChained start keys.now rows.now first.new.items next.new.items 0 }
+fn link_all(keys: &[u16], rows: &[Row], first: &mut Vec<usize>, next: &mut Vec<usize>)
+    requires { AreChained keys.now rows.now first.old.items next.old.items (length rows.now) }
+    ensures { AreChained keys.now rows.now first.new.items next.new.items 0 }
 {
     for place in (0..rows.len()).rev() {
-        link(start, keys, rows, place, first, next);
+        link(keys, rows, place, first, next);
     }
 }
 
 // Links the row before those that are linked.
-fn link(
-    start: FoldHasher,
-    keys: &[u16],
-    rows: &[Row],
-    place: usize,
-    first: &mut Vec<usize>,
-    next: &mut Vec<usize>,
-)
+fn link(keys: &[u16], rows: &[Row], place: usize, first: &mut Vec<usize>, next: &mut Vec<usize>)
     requires within { place < length rows.now }
-    requires chained { AreChained start keys.now rows.now first.old.items next.old.items (place + 1) }
-    ensures { AreChained start keys.now rows.now first.new.items next.new.items place }
+    requires chained { AreChained keys.now rows.now first.old.items next.old.items (place + 1) }
+    ensures { AreChained keys.now rows.now first.new.items next.new.items place }
 {
-    let chain = chain_of(start, first.len(), keys, &rows[place]);
+    let chain = chain_of(first.len(), keys, &rows[place]);
     next[place] = first[chain];
     first[chain] = place;
 }
 
 #[inline]
-fn chain_of(start: FoldHasher, count: usize, keys: &[u16], row: &Row) -> usize
+fn chain_of(count: usize, keys: &[u16], row: &Row) -> usize
     requires { 0 < count }
     ensures within { result < count }
-    ensures is { result ≡ chain_by start count (key_of keys.now row.now) }
+    ensures is { result ≡ chain_by count (key_of keys.now row.now) }
 {
-    (hash_of(start, keys, row) % count as u64) as usize
+    (hash_of(0, keys, row) / UPPER_HALF % count as u64) as usize
 }
 
 // The hash of the columns at these places, where so much was hashed before them.
 #[inline]
-fn hash_of(start: FoldHasher, keys: &[u16], row: &Row) -> u64
-    ensures { result ≡ hash_from start (key_of keys.now row.now) }
+fn hash_of(hash: u64, keys: &[u16], row: &Row) -> u64
+    ensures { result ≡ hash_from hash (key_of keys.now row.now) }
 {
     match keys {
-        [] => start.finish(),
-        [key, rest @ ..] => hash_of(with_column(start, row, *key as usize), rest, row),
+        [] => hash,
+        [key, rest @ ..] => hash_of(with_column(hash, row, *key as usize), rest, row),
     }
 }
 
-// The hasher with the value at a place more; NULL past the end, where no column of a plan is.
+// The hash with the value at a place more; NULL past the end, where no column of a plan is.
 #[inline]
-fn with_column(start: FoldHasher, row: &Row, place: usize) -> FoldHasher
-    ensures { result ≡ fed start (column row.now place) }
+fn with_column(hash: u64, row: &Row, place: usize) -> u64
+    ensures { result ≡ fed hash (column row.now place) }
 {
-    let mut state = start;
+    (hash ^ number_at(row, place)).wrapping_mul(HASH_FACTOR)
+}
+
+#[inline]
+fn number_at(row: &Row, place: usize) -> u64
+    ensures { result ≡ number_for (column row.now place) }
+{
     match row.as_slice().get(place) {
-        Some(value) => value.hash(&mut state),
-        None => Value::Null.hash(&mut state),
+        Some(value) => number_for(value),
+        None => number_for(&Value::Null),
     }
-    state
+}
+
+// An Int stands for itself, any other value for its hash.
+#[inline]
+fn number_for(value: &Value) -> u64
+    ensures { result ≡ number_for value.now }
+{
+    match value {
+        Value::Int(n) => n.cast_unsigned(),
+        _ => digest(value),
+    }
+}
+
+fn digest(value: &Value) -> u64
+    ensures { result ≡ digest value.now }
+{
+    let mut state = FoldHasher::default();
+    value.hash(&mut state);
+    state.finish()
 }

@@ -1,10 +1,10 @@
 //! Pairs of rows whose keys are equal.
-ghost use Rattle.std.specs.Prelude.{◌≡◌, ◌++◌, ◌∷◌, [], IfOk, OnOk, List, ℕ, map, false};
+ghost use Rattle.std.specs.Prelude.{◌≡◌, ◌<◌, ◌++◌, ◌∷◌, [], IfOk, OnOk, List, ℕ, length, map, false};
 ghost use Rattle.std.specs.Option.{option_map_or};
 ghost use Rattle.hq_algebra.specs.Eval.{column};
 ghost use Rattle.hq_meaning.specs.Operators.{joined, beside, matches, meets};
 ghost use Rattle.hq_value.specs.declared.value.Value.TheVariants as Datum;
-ghost use Rattle.hq_ops.specs.Chains.{Linked, row_at};
+ghost use Rattle.hq_ops.specs.Chains.{Linked, row_at, begins_at};
 ghost use Rattle.hq_ops.specs.Ends.{Gives, IsNumericAt};
 
 use crate::OpEnd;
@@ -59,24 +59,43 @@ pub fn join_chains(
 ) -> Result<Vec<Row>, NoMemory>
     ensures { IfOk result (λ found. found.items ≡ joined keys.now right.now.keys.now left.now right.now.rows.now) }
 {
-    let mut found = Vec::new(alloc);
-    for row in left {
-        push_pairs(alloc, row, keys, right, &mut found)?;
+    let firsts = first_places(alloc, left, keys, right)?;
+    let mut found = Vec::with_capacity(alloc, left.len())?;
+    for (index, row) in left.iter().enumerate() {
+        push_pairs(alloc, row, keys, right, firsts[index], &mut found)?;
     }
     Ok(found)
 }
 
-// The pairs of one left row.
+// Where the chain of each left row begins. All are looked up before any is walked, so that the processor waits for the
+// memory of many at once.
+fn first_places(
+    alloc: Global,
+    left: &[Row],
+    keys: &[u16],
+    right: &Chains,
+) -> Result<Vec<usize>, NoMemory>
+    ensures { IfOk result (λ firsts. firsts.items ≡ map (begins_at keys.now right.now.first.items) left.now) }
+{
+    let mut firsts = Vec::with_capacity(alloc, left.len())?;
+    for row in left {
+        firsts.push(right.first_of(keys, row))?;
+    }
+    Ok(firsts)
+}
+
+// The pairs of one left row, whose chain begins at a place.
 fn push_pairs(
     alloc: Global,
     left: &Row,
     keys: &[u16],
     right: &Chains,
+    first: usize,
     found: &mut Vec<Row>,
 ) -> Result<(), NoMemory>
+    requires { first ≡ begins_at keys.now right.now.first.items left.now }
     ensures { OnOk result (found.new.items ≡ found.old.items ++ beside keys.now right.now.keys.now right.now.rows.now left.now) }
 {
-    let first = right.first_of(keys, left);
     push_chain(alloc, left, keys, right, first, found)
 }
 
@@ -95,8 +114,8 @@ fn push_chain(
     let mut place = first;
     'chain: while place < right.rows.len() {
         let row = &right.rows[place];
-        push_match(alloc, left, keys, right.keys, row, found)?;
         place = right.after(place);
+        push_match(alloc, left, keys, right.keys, row, found)?;
     }
     Ok(())
 }
@@ -119,9 +138,18 @@ fn push_match(
     Ok(())
 }
 
-// Keys match where they are equal in pairs and none is NULL.
+// Keys match where they are equal in pairs and none is NULL. One key is the most common case.
 #[inline]
 fn is_match(left_keys: &[u16], right_keys: &[u16], left: &Row, right: &Row) -> bool
+    ensures { result ≡ matches left_keys.now right_keys.now left.now right.now }
+{
+    match (left_keys, right_keys) {
+        ([l], [r]) => are_equal(value_at(left, *l), value_at(right, *r)),
+        _ => are_equal_in_pairs(left_keys, right_keys, left, right),
+    }
+}
+
+fn are_equal_in_pairs(left_keys: &[u16], right_keys: &[u16], left: &Row, right: &Row) -> bool
     ensures { result ≡ matches left_keys.now right_keys.now left.now right.now }
 {
     match left_keys {
@@ -132,7 +160,7 @@ fn is_match(left_keys: &[u16], right_keys: &[u16], left: &Row, right: &Row) -> b
                 if !are_equal(value_at(left, *l), value_at(right, *r)) {
                     return false;
                 }
-                is_match(ls, rs, left, right)
+                are_equal_in_pairs(ls, rs, left, right)
             }
         },
     }
@@ -162,14 +190,40 @@ fn are_equal(a: Option<&Value>, b: Option<&Value>) -> bool
 fn pair(alloc: Global, left: &Row, right: &Row) -> Result<Row, NoMemory>
     ensures { IfOk result (λ row. row ≡ left.now ++ right.now) }
 {
-    let mut values = Row::with_capacity(alloc, left.len().saturating_add(right.len()))?;
-    push_copies(left.as_slice(), &mut values)?;
-    push_copies(right.as_slice(), &mut values)?;
-    Ok(values)
+    let left = left.as_slice();
+    let right = right.as_slice();
+    let count = left.len().saturating_add(right.len());
+    if count <= 3 {
+        return short_pair(alloc, left, right);
+    }
+    let mut values = Vec::with_capacity(alloc, count)?;
+    add_copies(left, &mut values)?;
+    add_copies(right, &mut values)?;
+    Ok(Row::from_vec(alloc, values))
+}
+
+// A row of few values takes no memory of its own.
+fn short_pair(alloc: Global, left: &[Value], right: &[Value]) -> Result<Row, NoMemory>
+    ensures { IfOk result (λ row. row ≡ left.now ++ right.now) }
+{
+    let mut row = Row::new(alloc);
+    push_copies(left, &mut row)?;
+    push_copies(right, &mut row)?;
+    Ok(row)
 }
 
 fn push_copies(values: &[Value], row: &mut Row) -> Result<(), NoMemory>
     ensures { OnOk result (row.new ≡ row.old ++ values.now) }
+{
+    for value in values {
+        row.push(value.copy()?)?;
+    }
+    Ok(())
+}
+
+#[inline]
+fn add_copies(values: &[Value], row: &mut Vec<Value>) -> Result<(), NoMemory>
+    ensures { OnOk result (row.new.items ≡ row.old.items ++ values.now) }
 {
     for value in values {
         row.push(value.copy()?)?;

@@ -1,6 +1,7 @@
 //! Rows in order.
-ghost use Rattle.std.specs.Prelude.{◌≡◌, Some, false, take};
-ghost use Rattle.hq_value.specs.Order.{value_cmp};
+ghost use Rattle.std.specs.Prelude.{◌≡◌, ◌∷◌, [], Some, false, take};
+ghost use Rattle.std.specs.Ordering.{ordering_then};
+ghost use Rattle.hq_value.specs.Order.{value_cmp, row_cmp};
 ghost use Rattle.hq_algebra.specs.Eval.{column};
 ghost use Rattle.hq_meaning.specs.Rows.{key_cmp, order_cmp, ordered, limited};
 ghost use Rattle.hq_meaning.specs.Operators.{sorted};
@@ -70,9 +71,56 @@ fn first(count: usize, rows: Vec<Row>) -> Vec<Row>
 fn sort(order: &[SortKey], rows: Vec<Row>) -> Vec<Row>
     ensures { result.items ≡ ordered order.now rows.items }
 {
+    match order {
+        [key] => sort_by_key(*key, rows),
+        _ => sort_by_keys(order, rows),
+    }
+}
+
+fn sort_by_keys(order: &[SortKey], rows: Vec<Row>) -> Vec<Row>
+    ensures { result.items ≡ ordered order.now rows.items }
+{
     let mut rows = rows;
     rows.sort_unstable_by(|a: &Row, b: &Row| compare_in_order(order, a, b));
     rows
+}
+
+// The most common order has a body of its own, since each step of a comparison counts.
+fn sort_by_key(key: SortKey, rows: Vec<Row>) -> Vec<Row>
+    ensures { result.items ≡ ordered (key ∷ []) rows.items }
+{
+    if key.descending {
+        return sort_by_keys(&[key], rows);
+    }
+    sort_ascending(key, rows)
+}
+
+fn sort_ascending(key: SortKey, rows: Vec<Row>) -> Vec<Row>
+    requires { key.descending ≡ false }
+    ensures { result.items ≡ ordered (key ∷ []) rows.items }
+{
+    let mut rows = rows;
+    let place = key.column;
+    rows.sort_unstable_by(|a: &Row, b: &Row| compare_ascending(place, a, b));
+    rows
+}
+
+#[inline(always)]
+fn compare_ascending(place: u16, a: &Row, b: &Row) -> Ordering
+    ensures { result ≡ ordering_then (value_cmp (column a.now place) (column b.now place)) (row_cmp a.now b.now) }
+{
+    let found = compare_at(place, a, b);
+    if found.is_ne() {
+        return found;
+    }
+    compare_whole(a, b)
+}
+
+#[inline(never)]
+fn compare_whole(a: &Row, b: &Row) -> Ordering
+    ensures { result ≡ row_cmp a.now b.now }
+{
+    compare_rows(a, b)
 }
 
 fn compare_in_order(order: &[SortKey], a: &Row, b: &Row) -> Ordering
@@ -99,7 +147,7 @@ fn compare_by(key: SortKey, a: &Row, b: &Row) -> Ordering
 }
 
 // In value order by the column at a place. It is NULL past the end, where no column of a plan is.
-#[inline]
+#[inline(always)]
 fn compare_at(place: u16, a: &Row, b: &Row) -> Ordering
     ensures { result ≡ value_cmp (column a.now place) (column b.now place) }
 {
@@ -108,6 +156,18 @@ fn compare_at(place: u16, a: &Row, b: &Row) -> Ordering
         b.as_slice().get(place as usize),
     ) {
         (Some(Value::Int(a)), Some(Value::Int(b))) => a.cmp(b),
+        _ => compare_any(place, a, b),
+    }
+}
+
+#[inline(never)]
+fn compare_any(place: u16, a: &Row, b: &Row) -> Ordering
+    ensures { result ≡ value_cmp (column a.now place) (column b.now place) }
+{
+    match (
+        a.as_slice().get(place as usize),
+        b.as_slice().get(place as usize),
+    ) {
         (Some(a), Some(b)) => compare_values(a, b),
         (Some(a), None) => compare_values(a, &Value::Null),
         (None, Some(b)) => compare_values(&Value::Null, b),

@@ -11,7 +11,7 @@ returns c =
     let next = c.args.next.now.items in
     let inside : c.chain_of-chain.result < length first = omega (arith, c.len.ensures, c.chain_of-chain.ensures.within) in
     let at : c.index.result.now ≡ get_or first c.chain_of-chain.result 0 = c.index.ensures ∙ get_or_default first c.chain_of-chain.result c.index.result.now 0 inside in
-    let is : c.chain_of-chain.result ≡ chain_by c.args.start (length first) (key_of c.args.keys.now (get_or c.args.rows.now c.args.place [])) =
-    c.chain_of-chain.ensures.is ∙ ap (λ n. chain_by c.args.start n (key_of c.args.keys.now c.index-rows-place.result)) (omega (arith, c.len.ensures)) ∙ ap (λ r. chain_by c.args.start (length first) (key_of c.args.keys.now r)) (c.index-rows-place.is ∙ get_or_default c.args.rows.now c.args.place c.index-rows-place.result [] c.requires.within) in
-    subst (λ v. AreChained c.args.start c.args.keys.now c.args.rows.now (slice_set first c.chain_of-chain.result c.args.place) (slice_set next c.args.place v) c.args.place) (sym at)
-    (linked-more c.args.start c.args.keys.now c.args.rows.now first next c.args.place c.chain_of-chain.result [] c.requires.within inside is c.requires.chained)
+    let is : c.chain_of-chain.result ≡ chain_by (length first) (key_of c.args.keys.now (get_or c.args.rows.now c.args.place [])) =
+    c.chain_of-chain.ensures.is ∙ ap (λ n. chain_by n (key_of c.args.keys.now c.index-rows-place.result)) (omega (arith, c.len.ensures)) ∙ ap (λ r. chain_by (length first) (key_of c.args.keys.now r)) (c.index-rows-place.is ∙ get_or_default c.args.rows.now c.args.place c.index-rows-place.result [] c.requires.within) in
+    subst (λ v. AreChained c.args.keys.now c.args.rows.now (slice_set first c.chain_of-chain.result c.args.place) (slice_set next c.args.place v) c.args.place) (sym at)
+    (linked-more c.args.keys.now c.args.rows.now first next c.args.place c.chain_of-chain.result [] c.requires.within inside is c.requires.chained)
