@@ -1,5 +1,5 @@
 -- What a link carries after an exchange is earlier than the next motion.
-use Rattle.std.proofs.Common.{◌≡◌, ◌⊎◌, inl, inr, ℕ, ◌+◌, ◌<◌, List, Option, Some, None, refl, sym, subst, ◌∙◌, arith}
+use Rattle.std.proofs.Common.{◌⊎◌, inl, inr, ℕ, ◌+◌, List, Option, Some, None, sym, subst, arith}
 use Rattle.hq_link.specs.declared.datagram.Datagram.{Datagram}
 use Rattle.hq_link.specs.Reading.{gram_at}
 use Rattle.hq_link.specs.Link.{Told, IsIn}

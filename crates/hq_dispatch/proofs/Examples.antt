@@ -1,11 +1,10 @@
 -- The worked join over one node, over three, and over those that are left where one is down; and what it does not give.
-use Rattle.std.proofs.Common.{◌≡◌, ◌≢◌, ℕ, zero, suc, ◌==◌, Bool, true, false, List, [], ◌∷◌, filter, pos, refl, Some, None}
+use Rattle.std.proofs.Common.{◌≡◌, ◌≢◌, ℕ, zero, ◌==◌, Bool, true, false, List, [], ◌∷◌, filter, pos, refl, None}
 use Rattle.hq_value.specs.declared.value.Value.{Value}
 use Rattle.hq_value.specs.declared.value.Value.TheVariants as value
 use Rattle.hq_value.specs.Bucket.{bucket_of}
 use Rattle.hq_algebra.specs.declared.expr.Expr.TheVariants as e
 use Rattle.hq_algebra.specs.declared.op.Op.TheVariants as op
-use Rattle.hq_algebra.specs.declared.plan.Motion.{Motion}
 use Rattle.hq_algebra.specs.declared.plan.Motion.TheVariants as motion
 use Rattle.hq_algebra.specs.declared.plan.Plan.{Plan}
 use Rattle.hq_algebra.specs.declared.plan.Slice.{Slice}
@@ -13,8 +12,8 @@ use Rattle.hq_algebra.specs.declared.expr.Expr.TheBlock.{hidden-the_row-Expr-0}
 use Rattle.hq_algebra.specs.declared.op.Op.TheBlock.{hidden-the_row-Op-0}
 use denote.Hole.Carrier.{hidden}
 use Rattle.hq_meaning.specs.Rows.{Row}
-use Rattle.hq_meaning.specs.Mean.{Rows, Numeric}
-use Rattle.hq_meaning.specs.Nodes.{nodes_of, lowest}
+use Rattle.hq_meaning.specs.Mean.{Rows}
+use Rattle.hq_meaning.specs.Nodes.{nodes_of}
 use Rattle.hq_meaning.specs.Plans.{Parts, plan_mean}
 use Rattle.hq_motion.specs.Bytes.{rows_bytes}
 use Rattle.hq_motion.specs.Split.{receivers}

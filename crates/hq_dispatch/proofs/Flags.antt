@@ -1,5 +1,5 @@
 -- Flags of nodes.
-use Rattle.std.proofs.Common.{◌≡◌, ◌⊎◌, inl, inr, ◌==◌, ◌+◌, ◌<◌, ◌≤◌, ℕ, zero, suc, Bool, true, false, List, [], ◌∷◌, length, filter, replicate, slice_index_or, slice_set, refl, sym, ap, ◌∙◌, arith}
+use Rattle.std.proofs.Common.{◌≡◌, inl, inr, ◌==◌, ◌+◌, ◌<◌, ℕ, zero, suc, Bool, true, false, List, [], ◌∷◌, length, filter, replicate, slice_index_or, slice_set, refl, sym, ap, ◌∙◌, arith}
 use Rattle.std.specs.List.{range_with_len}
 use Rattle.std.proofs.lemmas.Bool.{cases_lt, eqb-true, eqb-false}
 use Rattle.std.proofs.lemmas.Bool.Decides.{nat_tests}
@@ -20,7 +20,7 @@ flag-set f xs i v within is before k below =
 pub all-flagged : (flags : List Bool) (f : ℕ → Bool) → ((k : ℕ) → k < 16 → has_flag flags k ≡ f k) → flagged flags ≡ filter f (range_with_len 0 16)
 all-flagged flags f each = same-kept (has_flag flags) f 0 16 (λ n low high. each n (omega (arith, high)))
 
-none-set : (m n : ℕ) → slice_index_or (replicate m false) n false ≡ false
+pub none-set : (m n : ℕ) → slice_index_or (replicate m false) n false ≡ false
 none-set zero n = refl
 none-set (suc m) zero = refl
 none-set (suc m) (suc n) = none-set m n

@@ -1,5 +1,5 @@
 -- What an operator and those below it receive.
-use Rattle.std.proofs.Common.{◌≡◌, ℕ, Bool, true, false, ◌||◌, List, [], ◌∷◌, ◌++◌, Option, flat_map, refl, sym, ap, ◌∙◌}
+use Rattle.std.proofs.Common.{◌≡◌, ℕ, Bool, ◌||◌, List, [], ◌∷◌, ◌++◌, Option, flat_map, refl, sym, ap, ◌∙◌}
 use Rattle.std.specs.List.{list_any}
 use Rattle.hq_value.specs.declared.kind.Kind.{Kind}
 use Rattle.hq_algebra.specs.declared.expr.Expr.{Expr}

@@ -1,5 +1,5 @@
 -- The counts of a link never fall in an exchange.
-use Rattle.std.proofs.Common.{◌≡◌, ◌≤◌, ℕ, List, Result, inl, inr, refl, sym, ap, subst, arith}
+use Rattle.std.proofs.Common.{ℕ, List, Result, inl, inr, sym, subst, arith}
 use Rattle.hq_link.specs.Link.{LinkState}
 use Rattle.hq_pump.specs.declared.end.ExchangeEnd.{ExchangeEnd}
 use Rattle.hq_pump.specs.Exchange.{Exchange, Step, sends, answers_it, is_told, hears, misses, rests, fails, hands_over, gives_up, Run, still, more}

@@ -1,12 +1,11 @@
 -- What a plan means, slice by slice.
-use Rattle.std.proofs.Common.{◌≡◌, ℕ, Bool, true, false, ◌||◌, List, [], ◌∷◌, ◌++◌, flat_map, filter, refl, ap, sym, ◌∙◌, append_assoc, append-nil}
-use Rattle.std.specs.List.{list_any, range_with_len}
-use Rattle.hq_value.specs.declared.value.Value.{Value}
+use Rattle.std.proofs.Common.{◌≡◌, ℕ, Bool, true, false, ◌||◌, List, [], ◌∷◌, ◌++◌, flat_map, refl, ap, sym, ◌∙◌, append_assoc, append-nil}
+use Rattle.std.specs.List.{list_any}
 use Rattle.hq_algebra.specs.declared.plan.Motion.{Motion}
 use Rattle.hq_algebra.specs.declared.plan.Slice.{Slice}
 use Rattle.hq_laws.proofs.Moving.{moved-over}
 use Rattle.hq_meaning.specs.Rows.{Row}
-use Rattle.hq_meaning.specs.Mean.{Answer, Numeric, answer_of}
+use Rattle.hq_meaning.specs.Mean.{Numeric, answer_of}
 use Rattle.hq_meaning.specs.Nodes.{moved}
 use Rattle.hq_meaning.specs.Plans.{Parts, Sent, run_slice, run_slices, last_rows, answer_after}
 

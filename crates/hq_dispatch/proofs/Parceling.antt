@@ -1,19 +1,17 @@
 -- Rows go to the lists of their receivers.
-use Rattle.std.proofs.Common.{◌≡◌, ◌≢◌, ◌==◌, ◌+◌, ◌<◌, ◌≤◌, ℕ, zero, suc, Bool, true, false, cond, All, List, [], ◌∷◌, ◌++◌, length, take, filter, map, slice_set, slice_index_or, refl, ap, sym, subst, ◌∙◌, append-nil, arith}
+use Rattle.std.proofs.Common.{◌≡◌, ◌==◌, ◌+◌, ◌<◌, ◌≤◌, ℕ, zero, suc, Bool, true, false, cond, List, [], ◌∷◌, ◌++◌, length, take, filter, map, slice_set, slice_index_or, refl, ap, sym, subst, ◌∙◌, append-nil, arith}
 use Rattle.std.specs.Prelude.{Vec}
 use Rattle.std.proofs.lemmas.List.{map-append, take_more}
 use Rattle.std.specs.List.{range_with_len}
 use Rattle.std.proofs.lemmas.Bool.{eqb-true, eqb-false}
 use Rattle.std.proofs.lemmas.Bool.Decides.{nat_tests}
 use Rattle.std.proofs.lemmas.List.Elements.{filter-append}
-use Rattle.hq_value.specs.declared.value.Value.{Value}
 use Rattle.hq_block.specs.Row.{row_bytes}
 use Rattle.hq_algebra.specs.declared.plan.Motion.{Motion}
 use Rattle.hq_algebra.specs.declared.plan.Motion.TheVariants as motion
 use Rattle.hq_meaning.specs.Rows.{Row}
-use Rattle.hq_meaning.specs.Nodes.{home, moved, lowest}
+use Rattle.hq_meaning.specs.Nodes.{moved, lowest}
 use Rattle.hq_motion.specs.Bytes.{rows_bytes}
-use Rattle.hq_motion.specs.Split.{receivers}
 use Rattle.hq_motion.proofs.Reading.{bytes-joined}
 use Rattle.hq_motion.proofs.Splitting.{up-more}
 use Rattle.hq_pump.specs.Seen.{seen}
@@ -56,8 +54,8 @@ one_made [] x (suc n) e = refl
 one_made (y ∷ ys) x zero e = refl
 one_made (y ∷ ys) x (suc n) e = one_made ys x n e
 
-pub made_more : {A : Type 0} (xs new : List (Vec ℕ A)) (x : Vec ℕ A) → new ≡ xs ++ x ∷ [] → x.items ≡ [] → ((n : ℕ) → bytes_at xs n ≡ []) → (n : ℕ) → bytes_at new n ≡ []
-made_more {A} xs new x is e none n = ap (λ (l : List (Vec ℕ A)). bytes_at l n) is ∙ one_made xs x n e ∙ none n
+pub made_same : {A : Type 0} (xs new : List (Vec ℕ A)) (x : Vec ℕ A) → new ≡ xs ++ x ∷ [] → x.items ≡ [] → (n : ℕ) → bytes_at new n ≡ bytes_at xs n
+made_same {A} xs new x is e n = ap (λ (l : List (Vec ℕ A)). bytes_at l n) is ∙ one_made xs x n e
 
 -- with one row more
 pub row-more : {A : Type 0} (out : Motion) (owner : List ℕ) (row : Row) (old new : List (Vec ℕ A)) (k : ℕ) → k ≡ place_of out owner row

@@ -1,14 +1,20 @@
 -- What came of each sender is its stream.
-use Rattle.std.proofs.Common.{◌≡◌, inl, Option, Result, Ok, Err, IfOk, arith, ℕ, ◌<◌, ◌++◌, Bool, true, false, List, [], Some, None, filter, flat_map, slice_index_or, sym, ap, subst, ◌∙◌}
+use Rattle.std.proofs.Common.{◌≡◌, inl, Option, Result, Ok, Err, IfOk, OnOk, arith, ℕ, ◌<◌, ◌++◌, Bool, true, false, List, [], Some, None, filter, flat_map, slice_index_or, sym, ap, subst, ◌∙◌}
 use Rattle.std.specs.Global.{Vec}
 use Rattle.std.specs.Prelude.{slice_get}
-use Rattle.std.specs.List.{range_with_len}
+use Rattle.std.specs.List.{AllByRecursion, range_with_len}
 use Rattle.hq_value.specs.declared.kind.Kind.{Kind}
 use Rattle.hq_value.specs.declared.value.Value.{Value}
-use Rattle.hq_link.specs.Link.{Told, IsLowered}
+use Rattle.hq_value.specs.Causes.{RoseBy}
+use Rattle.hq_block.specs.Row.{IsStorable}
+use Rattle.hq_algebra.specs.declared.plan.Motion.{Motion}
+use Rattle.hq_link.specs.Link.{LinkState, Told, IsLowered}
+use Rattle.hq_pump.specs.Pumping.{pieces_of}
 use Rattle.hq_motion.specs.Bytes.{AreRows}
 use Rattle.hq_pump.specs.Safe.{Grows, TakeAll, WhereKnown}
-use Rattle.hq_dispatch.specs.Received.{AreGiven, AreOf}
+use Rattle.hq_dispatch.specs.Parcels.{list_of, parcel_at}
+use Rattle.hq_dispatch.specs.Received.{AreGiven, AreOf, HasTaken, joined, streams_for}
+use Rattle.hq_dispatch.specs.declared.parcels.Parcels.{Parcels}
 use Rattle.hq_dispatch.proofs.Apart.{streams_of, there-at}
 
 where-known : (may : Told) (P Q : Type 0) → (P → Q) → WhereKnown may P → WhereKnown may Q
@@ -32,18 +38,6 @@ given-of kinds sends given f streams is each n within e =
     let there = there-at f (λ s. slice_index_or sends s false) 0 16 n (omega arith) (omega (arith, within)) e in
     (there.0, f n, ap (λ (l : List (ℕ × List ℕ)). slice_get l there.0) is ∙ there.1, each n within e)
 
-abbrev pub Joined : List Bool → List (List Value) → (ℕ → List (List Value)) → Type 0
-Joined sends rows given = rows ≡ flat_map given (filter (λ n. slice_index_or sends n false) (range_with_len 0 16))
-
--- the rows of the streams are those of the parcels
-pub parcels-known : {E : Type 0} (may : Told) (kinds : List Kind) (sends : List Bool) (f : ℕ → List ℕ) (streams : List (ℕ × List ℕ)) (result : Result (Vec (List Value)) E) → streams ≡ streams_of f (λ s. slice_index_or sends s false) 0 16
-    → IfOk result (λ rows. WhereKnown may ((given : ℕ → List (List Value)) → AreOf kinds sends given streams → Joined sends rows.items given))
-    → IfOk result (λ rows. WhereKnown may ((given : ℕ → List (List Value)) → AreGiven kinds sends given f → Joined sends rows.items given))
-parcels-known may kinds sends f streams (Err e) is h = tt
-parcels-known may kinds sends f streams (Ok rows) is h =
-    where-known may ((given : ℕ → List (List Value)) → AreOf kinds sends given streams → Joined sends rows.items given) ((given : ℕ → List (List Value)) → AreGiven kinds sends given f → Joined sends rows.items given)
-    (λ all given each. all given (given-of kinds sends given f streams is each)) h
-
 -- a link that is left as it is brings nothing new
 pub grows-same : (may : Told) (P : List ℕ → Type 0) → Grows may may P
 grows-same None P = tt
@@ -52,3 +46,15 @@ grows-same (Some xs) P = λ x is. inl is
 pub lowered-same : (rough : Option ℕ) → IsLowered rough rough
 lowered-same None = tt
 lowered-same (Some r) = omega arith
+
+-- the rows that were taken are those of the senders
+pub taken-so : {E : Type 0} (kinds : List Kind) (out : Motion) (parcels : List Parcels) (sends : List Bool) (node : ℕ) (old new : LinkState) (streams : List (ℕ × List ℕ)) (result : Result (Vec (List Value)) E) → streams ≡ streams_for out parcels sends node
+    → IfOk result (λ rows. AllByRecursion (IsStorable kinds) rows.items) → IfOk result (λ rows. WhereKnown new.may ((given : ℕ → List (List Value)) → AreOf kinds sends given streams → rows.items ≡ joined sends given))
+    → OnOk result (WhereKnown new.may (RoseBy (pieces_of streams) old.given new.given)) → IfOk result (λ rows. HasTaken kinds out parcels sends node old new rows.items)
+taken-so kinds out parcels sends node old new streams (Err e) is storable known given = tt
+taken-so kinds out parcels sends node old new streams (Ok rows) is storable known given = record {
+  storable = storable;
+  known = where-known new.may ((given : ℕ → List (List Value)) → AreOf kinds sends given streams → rows.items ≡ joined sends given) ((given : ℕ → List (List Value)) → AreGiven kinds sends given (λ s. parcel_at parcels s (list_of out node)) → rows.items ≡ joined sends given)
+      (λ all given each. all given (given-of kinds sends given (λ s. parcel_at parcels s (list_of out node)) streams is each)) known;
+  given = subst (λ (l : List (ℕ × List ℕ)). WhereKnown new.may (RoseBy (pieces_of l) old.given new.given)) is given;
+}

@@ -1,7 +1,7 @@
 -- The nodes that are up.
 use Rattle.std.proofs.Common.{◌≡◌, ◌+◌, ◌%◌, ◌<◌, ◌≤◌, ℕ, zero, suc, Bool, true, false, cond, List, [], ◌∷◌, length, filter, map, slice_index, slice_index_or, refl, sym, ap, ◌∙◌, subst, arith, add-zero}
 use Rattle.std.specs.List.{list_any, range_with_len}
-use Rattle.hq_detect.specs.Assign.{ups_from, owner_of}
+use Rattle.hq_detect.specs.Assign.{ups_from}
 use Rattle.hq_motion.specs.Split.{nodes_up}
 use Rattle.hq_laws.specs.Dealt.{dealt}
 use Rattle.hq_dispatch.specs.Owners.{owners}

@@ -1,7 +1,15 @@
 pub mod Arrivals
+pub mod Basis
 pub mod Each
+pub mod Ended
 pub mod Ends
+pub mod Finished
+pub mod Going
+pub mod Outside
 pub mod Owners
 pub mod Parcels
 pub mod Received
+pub mod Running
+pub mod Settled
+pub mod Standing
 pub mod Streams

@@ -1,7 +1,7 @@
 -- The streams that the motions of a plan take.
 --     slice_streams parts owner sents slice n      what node n gets of a slice: from each node that ran it the bytes of its rows
 --     plan_pieces plan parts owner n               how many Data and Eos pieces node n gets for a plan
-use Rattle.std.specs.Prelude.{ℕ, ◌+◌, ◌==◌, Bool, true, false, List, [], ◌∷◌, ◌++◌, map, if◌then◌else◌}
+use Rattle.std.specs.Prelude.{ℕ, ◌+◌, ◌==◌, Bool, List, [], ◌∷◌, ◌++◌, map, if◌then◌else◌}
 use Rattle.std.specs.List.{list_any}
 use Rattle.hq_algebra.specs.declared.plan.Slice.{Slice}
 use Rattle.hq_algebra.specs.declared.plan.Plan.{Plan}

@@ -1,4 +1,4 @@
-//! The pieces of which a query over nodes is made.
+//! Queries over nodes (`run_query`).
 //!
 //! How a query flows. The nodes in use are those that are up, and each bucket belongs to one of them. The slices of the
 //! plan run one after another, each on all nodes in use at once, and one that receives a Gather on the lowest alone (`parts`). A
@@ -16,11 +16,22 @@
 #![tactic(auto)]
 
 mod arrivals;
+mod basis;
+mod buckets;
 mod end;
+mod flow;
 mod laws;
+mod moves;
 mod owners;
+mod packing;
 mod parcels;
 mod parts;
+mod query;
+mod receive;
+mod settle;
+mod spread;
+mod task;
 
 pub use end::QueryEnd;
 pub use laws::motions_follow_one_another;
+pub use query::run_query;

@@ -16,6 +16,7 @@ pub(crate) fn owners(marks: &Marks) -> [u8; BUCKETS]
     ensures in_use { nodes_of result ≡ nodes_up marks.now }
     ensures first { slice_index result 0 ≡ lowest result }
     ensures some { 0 < length (nodes_up marks.now) }
+    ensures few { length marks.now ≤ 16 }
     ensures below { All (λ node. node < 16) result }
 {
     let _nodes = marks.nodes();

@@ -1,11 +1,12 @@
 //! Rows in the bytes of their receivers.
-ghost use Rattle.std.specs.Prelude.{◌≡◌, ◌<◌, ◌++◌, ◌∷◌, ℕ, [], true, false, All, List, length, map, filter, slice_index_or, IfOk, OnOk, if◌then◌else◌};
-ghost use Rattle.std.specs.List.{AllByRecursion, range_with_len};
+ghost use Rattle.std.specs.Prelude.{◌≡◌, ◌<◌, ◌++◌, ◌∷◌, ℕ, [], true, false, All, length, slice_index_or, IfOk, OnOk, if◌then◌else◌};
+ghost use Rattle.std.specs.List.{AllByRecursion};
 ghost use Rattle.hq_value.specs.Kinds.{Fits};
 ghost use Rattle.hq_algebra.specs.declared.plan.Motion.{Motion as Way};
 ghost use Rattle.hq_block.specs.Row.{IsStorable, IsRow, row_bytes};
 ghost use Rattle.hq_pump.specs.Seen.{seen};
 ghost use Rattle.hq_dispatch.specs.Parcels.{place_of, list_of, bytes_at, parcel_at, CanGo, HasParcels};
+ghost use Rattle.hq_dispatch.specs.Received.{streams_for};
 
 use hq_algebra::Motion;
 use hq_block::put_row;
@@ -13,46 +14,66 @@ use hq_value::{BUCKETS, Kinds, NoMemory, Row, bucket_of_places};
 use std::alloc::Global;
 
 /// The rows that a node sends, in bytes: where rows go by their keys a list for each of 16 nodes, and else one list for
-/// all receivers, the first.
+/// all receivers, the first. Lists to which no row has gone need not be there.
 #[derive(Drop)]
 pub(crate) struct Parcels {
     lists: Vec<Vec<u8>>,
 }
 
 impl Parcels {
-    /// No rows.
-    pub(crate) fn new(alloc: Global) -> Result<Parcels, NoMemory>
-        ensures sixteen { IfOk result (λ parcels. length parcels.lists.items ≡ 16) }
-        ensures none { IfOk result (λ parcels. (out : Way) (owner : List ℕ) → HasParcels out owner [] parcels.lists.items) }
+    /// No rows. It takes no memory.
+    pub(crate) fn new(alloc: Global) -> Parcels
+        ensures { (n : ℕ) → bytes_at result.lists.items n ≡ [] }
     {
-        let lists = empty_lists(alloc)?;
-        Ok(Parcels { lists })
+        Parcels {
+            lists: Vec::new(alloc),
+        }
     }
 
-    /// Adds a row for its receivers. Without memory nothing changes.
-    pub(crate) fn add(
+    /// Adds a row for its receivers. Without memory no byte changes.
+    fn add(
         &mut self,
+        alloc: Global,
         out: &Motion,
         kinds: &Kinds,
         owner: &[u8; BUCKETS],
         row: &Row,
     ) -> Result<(), NoMemory>
-        requires sixteen { length self.old.lists.items ≡ 16 }
         requires fits { Fits kinds.now row.now }
         requires goes { CanGo out.now row.now }
         requires owners { All (λ node. node < 16) owner.now }
-        ensures sixteen { length self.new.lists.items ≡ 16 }
         ensures storable { OnOk result (IsStorable kinds.now row.now) }
         ensures added { OnOk result ((rows : _) → HasParcels out.now owner.now rows self.old.lists.items → HasParcels out.now owner.now (rows ++ row.now ∷ []) self.new.lists.items) }
     {
         let place = place_of(out, owner, row);
+        reach(alloc, &mut self.lists, place)?;
         put_at(&mut self.lists, place, kinds, row)
+    }
+
+    /// Adds rows for their receivers, in their order.
+    pub(crate) fn add_all(
+        &mut self,
+        alloc: Global,
+        out: &Motion,
+        kinds: &Kinds,
+        owner: &[u8; BUCKETS],
+        rows: &[Row],
+    ) -> Result<(), NoMemory>
+        requires fit { All (Fits kinds.now) rows.now }
+        requires goes { All (CanGo out.now) rows.now }
+        requires owners { All (λ node. node < 16) owner.now }
+        ensures storable { OnOk result (AllByRecursion (IsStorable kinds.now) rows.now) }
+        ensures added { OnOk result ((others : _) → HasParcels out.now owner.now others self.old.lists.items → HasParcels out.now owner.now (others ++ rows.now) self.new.lists.items) }
+    {
+        for row in rows {
+            self.add(alloc, out, kinds, owner, row)?;
+        }
+        Ok(())
     }
 
     /// The bytes for a receiver.
     fn copy_for(&self, alloc: Global, out: &Motion, node: u8) -> Result<Vec<u8>, NoMemory>
-        requires sixteen { length self.now.lists.items ≡ 16 }
-        requires node { node < 16 }
+        requires { node < 16 }
         ensures { IfOk result (λ bytes. bytes.items ≡ bytes_at self.now.lists.items (list_of out.now node)) }
     {
         let place = list_of(out, node);
@@ -60,37 +81,15 @@ impl Parcels {
     }
 }
 
-/// The rows for their receivers.
-pub(crate) fn parcels_of(
-    alloc: Global,
-    out: &Motion,
-    kinds: &Kinds,
-    owner: &[u8; BUCKETS],
-    rows: &[Row],
-) -> Result<Parcels, NoMemory>
-    requires fit { All (Fits kinds.now) rows.now }
-    requires goes { All (CanGo out.now) rows.now }
-    requires owners { All (λ node. node < 16) owner.now }
-    ensures sixteen { IfOk result (λ parcels. length parcels.lists.items ≡ 16) }
-    ensures has { IfOk result (λ parcels. HasParcels out.now owner.now rows.now parcels.lists.items) }
-    ensures storable { OnOk result (AllByRecursion (IsStorable kinds.now) rows.now) }
+// Makes empty lists as far as a place.
+fn reach(alloc: Global, lists: &mut Vec<Vec<u8>>, place: usize) -> Result<(), NoMemory>
+    ensures within { OnOk result (place < length lists.new.items) }
+    ensures same { (n : ℕ) → bytes_at lists.new.items n ≡ bytes_at lists.old.items n }
 {
-    let mut parcels = Parcels::new(alloc)?;
-    for row in rows {
-        parcels.add(out, kinds, owner, row)?;
-    }
-    Ok(parcels)
-}
-
-fn empty_lists(alloc: Global) -> Result<Vec<Vec<u8>>, NoMemory>
-    ensures sixteen { IfOk result (λ lists. length lists.items ≡ 16) }
-    ensures none { IfOk result (λ lists. (n : ℕ) → bytes_at lists.items n ≡ []) }
-{
-    let mut lists = Vec::with_capacity(alloc, BUCKETS)?;
-    for _place in 0..BUCKETS {
+    'lists: while lists.len() <= place {
         lists.push(Vec::new(alloc))?;
     }
-    Ok(lists)
+    Ok(())
 }
 
 // The list to which a row's bytes go.
@@ -130,10 +129,13 @@ fn put_at(lists: &mut Vec<Vec<u8>>, place: usize, kinds: &Kinds, row: &Row) -> R
     put_row(&mut lists[place], kinds, row)
 }
 
+// The list at a place; none is there past the end.
 fn copy_at(alloc: Global, lists: &[Vec<u8>], place: usize) -> Result<Vec<u8>, NoMemory>
-    requires { place < length lists.now }
     ensures { IfOk result (λ bytes. bytes.items ≡ bytes_at lists.now place) }
 {
+    if lists.len() <= place {
+        return Ok(Vec::new(alloc));
+    }
     Ok(Vec::from_slice(alloc, lists[place].as_slice())?)
 }
 
@@ -145,11 +147,9 @@ pub(crate) fn streams_to(
     sends: &[bool; BUCKETS],
     node: u8,
 ) -> Result<Vec<(u8, Vec<u8>)>, NoMemory>
-    requires whole { All (λ p. length p.lists.items ≡ 16) parcels.now }
     requires there { (s : ℕ) → slice_index_or sends.now s false ≡ true → s < length parcels.now }
     requires node { node < 16 }
-    ensures { IfOk result (λ streams. seen streams.items
-        ≡ map (λ s. (s, parcel_at parcels.now s (list_of out.now node))) (filter (λ s. slice_index_or sends.now s false) (range_with_len 0 16))) }
+    ensures { IfOk result (λ streams. seen streams.items ≡ streams_for out.now parcels.now sends.now node) }
 {
     let mut streams = Vec::with_capacity(alloc, BUCKETS)?;
     for sender in 0..16u8 {
@@ -176,7 +176,6 @@ fn add_stream(
     sends: bool,
     node: u8,
 ) -> Result<(), NoMemory>
-    requires whole { All (λ p. length p.lists.items ≡ 16) parcels.now }
     requires there { sends ≡ true → sender < length parcels.now }
     requires node { node < 16 }
     ensures { OnOk result (seen streams.new.items
@@ -198,7 +197,6 @@ fn copy_from(
     sender: usize,
     node: u8,
 ) -> Result<Vec<u8>, NoMemory>
-    requires whole { All (λ p. length p.lists.items ≡ 16) parcels.now }
     requires there { sender < length parcels.now }
     requires node { node < 16 }
     ensures { IfOk result (λ bytes. bytes.items ≡ parcel_at parcels.now sender (list_of out.now node)) }

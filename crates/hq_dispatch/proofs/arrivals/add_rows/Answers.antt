@@ -1,5 +1,5 @@
 -- The rows of a sender behind the others.
-use Rattle.std.proofs.Common.{◌≡◌, ◌∙◌, ◌++◌, List, true, rules, ap}
+use Rattle.std.proofs.Common.{◌≡◌, true, rules}
 use Rattle.hq_dispatch.proofs.Arriving.{rows-added}
 use Rattle.hq_dispatch.proofs.arrivals.add_rows.Goals as goal
 

@@ -1,5 +1,5 @@
 -- The kinds are the same.
-use Rattle.std.proofs.Common.{◌≡◌, ◌<◌, ℕ, List, true, length, rules, subst}
+use Rattle.std.proofs.Common.{◌≡◌, ◌<◌, List, true, length, rules, subst}
 use Rattle.hq_value.specs.declared.kind.Kind.{Kind}
 use Rattle.hq_dispatch.specs.Arrivals.{AreStorable}
 use Rattle.hq_dispatch.proofs.arrivals.join_as.Goals as goal

@@ -1,7 +1,5 @@
 -- One node more, of which nothing came.
-use Rattle.std.proofs.Common.{◌≡◌, ◌∙◌, ◌+◌, ◌++◌, ℕ, List, [], ◌∷◌, ap, length, length-append}
-use Rattle.hq_motion.specs.Bytes.{rows_bytes}
-use Rattle.hq_dispatch.specs.Arrivals.{came}
+use Rattle.std.proofs.Common.{◌∙◌, ◌+◌, ℕ, [], ◌∷◌, ap, length, length-append}
 use Rattle.hq_dispatch.proofs.Arriving.{came-more, storable-more, came-none}
 use Rattle.hq_dispatch.proofs.arrivals.nothing.Goals as goal
 

@@ -1,5 +1,5 @@
 -- One row more.
-use Rattle.std.proofs.Common.{◌≡◌, ◌∙◌, ◌-◌, ℕ, length, drop, ap, arith, length-drop}
+use Rattle.std.proofs.Common.{◌≡◌, ◌∙◌, ◌-◌, length, ap, arith, length-drop}
 use Rattle.hq_dispatch.proofs.Arriving.{next-row}
 use Rattle.hq_dispatch.proofs.arrivals.read_rows.Goals as goal
 

@@ -1,5 +1,5 @@
 -- The nodes to which the buckets are dealt.
-use Rattle.std.proofs.Common.{◌≡◌, ◌∙◌, ◌+◌, ◌<◌, ◌≤◌, ℕ, Bool, All, List, false, length, slice_index, slice_index_or, arith, rules, sym, ap, subst}
+use Rattle.std.proofs.Common.{◌≡◌, ◌∙◌, ◌<◌, ◌≤◌, ℕ, Bool, All, List, false, length, slice_index, slice_index_or, arith, rules, sym, ap, subst}
 use Rattle.hq_meaning.specs.Nodes.{nodes_of}
 use Rattle.hq_motion.specs.Split.{nodes_up}
 use Rattle.hq_laws.specs.Dealt.{dealt}
@@ -22,5 +22,6 @@ returns c =
       in_use = in_use;
       first = ap (λ (l : List ℕ). slice_index l 0) deal ∙ dealt-first (nodes_up marks) some ∙ sym (ap (λ (l : List ℕ). slice_index l 0) in_use);
       some = some;
+      few = few;
       below = subst (All (λ n. n < 16)) (sym deal) (c.dealt_nodes_are_in_use.ensures.owner (λ n. slice_index_or marks n false) some).1;
     }

@@ -1,5 +1,5 @@
 -- One flag more, and all of them.
-use Rattle.std.proofs.Common.{◌≡◌, ◌∙◌, ◌<◌, ℕ, length, arith}
+use Rattle.std.proofs.Common.{◌∙◌, arith}
 use Rattle.std.proofs.lemmas.List.{length-set}
 use Rattle.hq_dispatch.specs.Owners.{has_flag}
 use Rattle.hq_dispatch.proofs.Flags.{flag-set, all-flagged}
