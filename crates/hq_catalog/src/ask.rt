@@ -1,6 +1,6 @@
 //! What is asked of a catalogue, and what it answers.
 use hq_lane::Lane;
-use hq_snap::{Have, Scope, TableSnap};
+use hq_snap::{Have, Scope, TableDelta};
 use hq_store::{SealCopy, StoredFile};
 use hq_value::{Column, Marks, Name, TableDef};
 
@@ -35,7 +35,7 @@ pub enum Answer<F: StoredFile, Z: SealCopy> {
     Seen {
         at: u64,
         marks: Marks,
-        tables: Vec<TableSnap<Z>>,
+        tables: Vec<TableDelta<Z>>,
     },
     Made {
         table: u32,

@@ -14,7 +14,7 @@ use crate::kept::{Change, Grown};
 use crate::table::Table;
 use hq_lane::Lane;
 use hq_pool::Lent;
-use hq_snap::TableSnap;
+use hq_snap::TableDelta;
 use hq_store::{SealCopy, StoredFile};
 use hq_value::{Entry, EntryKind, Marks, Name, NoMemory};
 use indexmap::IndexSet;
@@ -99,7 +99,7 @@ impl<F: StoredFile, Z: SealCopy> Books<F, Z> {
         &mut self,
         session: u32,
         statement: u32,
-        tables: Vec<TableSnap<Z>>,
+        tables: Vec<TableDelta<Z>>,
     ) -> Answer<F, Z>
         requires books { IsBooks (F.tells && Z.tells) self.old }
         requires room { HasRoom self.old }

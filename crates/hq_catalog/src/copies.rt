@@ -7,7 +7,7 @@ ghost use Rattle.hq_catalog.specs.Looks.{have_at, numbers_in};
 ghost use Rattle.hq_catalog.specs.Copies.{IsCopy, AddsIf, HasTables, AreWanted, AreNamed, is_had, is_marked, name_at};
 
 use crate::table::Table;
-use hq_snap::{Have, Scope, TableSnap};
+use hq_snap::{Have, Scope, TableDelta};
 use hq_store::{SealCopy, StoredFile};
 use hq_value::{Name, NoMemory};
 use indexmap::IndexSet;
@@ -21,7 +21,7 @@ pub(crate) fn seen_of<F: StoredFile, Z: SealCopy>(
     tables: &Vec<Table<F, Z>>,
     scope: &Scope,
     have: &Vec<Have>,
-) -> Result<Vec<TableSnap<Z>>, NoMemory>
+) -> Result<Vec<TableDelta<Z>>, NoMemory>
     requires tables { HasTables tables.now.items }
     requires few { length tables.now.items ≤ 64 }
     requires names { names.now.keys ≡ map (λ table. table.def.name) tables.now.items }
@@ -39,7 +39,7 @@ pub(crate) fn seen_of<F: StoredFile, Z: SealCopy>(
 // Adds the table, if it is wanted.
 fn add_seen<F: StoredFile, Z: SealCopy>(
     alloc: Global,
-    snaps: &mut Vec<TableSnap<Z>>,
+    snaps: &mut Vec<TableDelta<Z>>,
     table: &Table<F, Z>,
     wanted: bool,
     have: &Vec<Have>,

@@ -1,14 +1,14 @@
 //! An ask that has all the memory that it wants.
 use crate::table::Table;
 use hq_lane::Lane;
-use hq_snap::TableSnap;
+use hq_snap::TableDelta;
 use hq_store::{SealCopy, StoredFile};
 use hq_value::{Column, Name, TableDef};
 
 /// What is left of an ask once all the memory that it wants is there: one step that can't fail.
 pub(crate) enum Plan<F: StoredFile, Z: SealCopy> {
     /// The tables that a look sees.
-    Look(Vec<TableSnap<Z>>),
+    Look(Vec<TableDelta<Z>>),
     /// A table, and its name and definition once more, to be kept.
     Make {
         name: Name,

@@ -13,7 +13,7 @@ use crate::books::Books;
 use crate::copies::seen_of;
 use crate::plan::Plan;
 use crate::table::Table;
-use hq_snap::{Have, Scope, TableSnap};
+use hq_snap::{Have, Scope, TableDelta};
 use hq_store::{SealCopy, StoredFile};
 use hq_value::{Column, ColumnFault, Name, NoMemory, TableDef};
 
@@ -58,7 +58,7 @@ impl<F: StoredFile, Z: SealCopy> Books<F, Z> {
 
 impl<F: StoredFile, Z: SealCopy> Books<F, Z> {
     // The tables of the scope, with what changed of each since.
-    fn copies(&mut self, scope: &Scope, have: &Vec<Have>) -> Result<Vec<TableSnap<Z>>, NoMemory>
+    fn copies(&mut self, scope: &Scope, have: &Vec<Have>) -> Result<Vec<TableDelta<Z>>, NoMemory>
         requires { IsBooks (F.tells && Z.tells) self.old }
         ensures kept { IsBooks (F.tells && Z.tells) self.new }
         ensures same { cat_of self.new ≡ cat_of self.old }

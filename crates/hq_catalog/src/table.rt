@@ -10,7 +10,7 @@ use crate::commits::commit_files;
 use crate::kept::Grown;
 use hq_lane::Lane;
 use hq_pool::{Lent, Next, Pool, Slot};
-use hq_snap::{Changed, LaneSeals, TableSnap, copy_since};
+use hq_snap::{Changed, LaneSeals, TableDelta, copy_since};
 use hq_store::{SealCopy, StoredFile};
 use hq_value::{NoMemory, TableDef};
 use std::alloc::Global;
@@ -78,7 +78,7 @@ impl<F: StoredFile, Z: SealCopy> Table<F, Z> {
     }
 
     /// Its definition, and the seals of the files that changed since.
-    pub(crate) fn since(&self, alloc: Global, at: u64) -> Result<TableSnap<Z>, NoMemory>
+    pub(crate) fn since(&self, alloc: Global, at: u64) -> Result<TableDelta<Z>, NoMemory>
         requires { length self.now.seals ≡ 64 }
         ensures table { IfOk result (λ snap. snap.table ≡ self.now.number) }
         ensures def { IfOk result (λ snap. snap.def ≡ self.now.def) }

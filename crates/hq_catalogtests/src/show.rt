@@ -1,7 +1,7 @@
 //! What a session is told, as text.
 
 use crate::turns::{Handed, Said};
-use hq_snap::TableSnap;
+use hq_snap::TableDelta;
 use hq_store::SealCopy;
 use hq_untold::UntoldSeal;
 use hq_value::Marks;
@@ -13,17 +13,11 @@ fn show_handed(rt: HostRuntime, word: &str, handed: Handed) -> Result<(), Fail> 
 }
 
 // The seals of a table, as lane, bucket and length.
-fn show_table(rt: HostRuntime, snap: &TableSnap<UntoldSeal>) -> Result<(), Fail> {
-    let columns = snap.def().columns().as_slice().len();
-    print!(rt; "  table {}, columns {columns}, seals", snap.table())?;
-    let mut lane = 0u32;
-    for seals in snap.lanes() {
-        for bucket in 0..16u8 {
-            if let Some(seal) = seals.get(bucket) {
-                print!(rt; " {lane}.{bucket} {}", seal.len())?;
-            }
-        }
-        lane = lane.saturating_add(1);
+fn show_table(rt: HostRuntime, delta: &TableDelta<UntoldSeal>) -> Result<(), Fail> {
+    let columns = delta.def().columns().as_slice().len();
+    print!(rt; "  table {}, columns {columns}, seals", delta.table())?;
+    for file in delta.files() {
+        print!(rt; " {}.{} {}", file.lane(), file.bucket(), file.seal().len())?;
     }
     println!(rt; "")?;
     Ok(())
@@ -42,7 +36,7 @@ fn show_seen(
     rt: HostRuntime,
     at: u64,
     marks: &Marks,
-    tables: &[TableSnap<UntoldSeal>],
+    tables: &[TableDelta<UntoldSeal>],
 ) -> Result<(), Fail> {
     print!(rt; " seen at {at}, nodes")?;
     show_marks(rt, marks)?;

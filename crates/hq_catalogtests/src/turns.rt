@@ -8,7 +8,7 @@ ghost use Rattle.hq_catalogtests.specs.Turns.{Has, HasMade, HasTurned, IsMadeIn,
 
 use crate::hand::{Held, UntoldLane};
 use hq_catalog::{Answer, Ask, Catalogue};
-use hq_snap::TableSnap;
+use hq_snap::TableDelta;
 use hq_untold::{UntoldFile, UntoldSeal};
 use hq_value::Marks;
 use std::alloc::Global;
@@ -32,7 +32,7 @@ pub(crate) enum Said {
     Seen {
         at: u64,
         marks: Marks,
-        tables: Vec<TableSnap<UntoldSeal>>,
+        tables: Vec<TableDelta<UntoldSeal>>,
     },
     Made(u32),
     Exists,

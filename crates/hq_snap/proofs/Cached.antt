@@ -1,5 +1,5 @@
 -- Tables of a cache.
-use Rattle.std.proofs.Common.{◌≡◌, ◌≢◌, ◌⊎◌, ℕ, zero, suc, ◌+◌, ◌-◌, ◌<◌, ◌≤◌, ◌==◌, ◌||◌, Bool, true, false, not, cond, ltb, List, [], ◌∷◌, ◌++◌, length, take, drop, Option, Some, None, position, is_some, slice_index_or, slice_set, refl, sym, ◌∙◌, ap, subst, arith, inl, inr}
+use Rattle.std.proofs.Common.{◌≡◌, ◌≢◌, ℕ, zero, suc, ◌+◌, ◌-◌, ◌<◌, ◌≤◌, ◌==◌, ◌||◌, Bool, true, false, not, cond, ltb, List, [], ◌∷◌, ◌++◌, length, take, Option, Some, None, position, is_some, IsSome, slice_index_or, slice_set, refl, sym, ◌∙◌, ap, subst, arith, inl, inr}
 use Rattle.std.specs.List.{list_any, position_or_len}
 use Rattle.std.proofs.lemmas.Bool.{cases_eq, eqb-true}
 use Rattle.std.proofs.lemmas.List.{append-nil, append_assoc, get_or_default}
@@ -8,9 +8,8 @@ use Rattle.std.proofs.lemmas.List.Quantifiers.{position-Some}
 use Rattle.std.proofs.lemmas.Grind.{common_steps}
 use Rattle.hq_snap.specs.declared.scope.Scope.{Scope}
 use Rattle.hq_snap.specs.declared.scope.Have.{Have}
-use Rattle.hq_snap.specs.Snaps.{TableSnapState, AreMerged, newer, seal_in}
+use Rattle.hq_snap.specs.Snaps.{TableSnapState, AreMerged}
 use Rattle.hq_snap.specs.Caches.{CacheState, CachedState, is_table, cached, cached_in, have_one, have_of, no_snap, snap_at, AreDistinct, IsMergedTo, IsMerged, MergesAll}
-use Rattle.hq_snap.proofs.Since.{newer_none}
 
 -- the tables of a scope, with one table more
 pub have_more : (scope : Scope) (snaps : List TableSnapState) (ps : List ℕ) (i : ℕ) → i < length snaps → length ps ≡ length snaps
@@ -22,10 +21,10 @@ have_more scope (s ∷ ss) (p ∷ ps) (suc i) h e =
     ap (λ (xs : List Have). have_one scope s p ++ xs) (have_more scope ss ps i (omega arith) (omega (arith, e)))
     ∙ sym (append_assoc (have_one scope s p) (have_of scope (take i ss) (take i ps)) (have_one scope (slice_index_or ss i no_snap) (slice_index_or ps i 0)))
 
-is_same : (t : ℕ) → (t == t) ≡ true
+pub is_same : (t : ℕ) → (t == t) ≡ true
 is_same t = grind (arith, common_steps)
 
-is_other : (u t : ℕ) → u ≢ t → (u == t) ≡ false
+pub is_other : (u t : ℕ) → u ≢ t → (u == t) ≡ false
 is_other u t h = grind (arith, common_steps)
 
 -- the table of a number that is first at place i
@@ -176,10 +175,33 @@ others_found at i ts ps snap r y pos len read table t d =
     cached_other t snap.table d ts ps i y at f.0 len (table ∙ ap (λ (s : TableSnapState). s.table) r_is ∙ own) own
 
 -- the table was not there, and is added
-pub merged_new : (at : ℕ) (ts : List TableSnapState) (ps : List ℕ) (snap : TableSnapState) → position (is_table snap.table) ts ≡ None → length ps ≡ length ts
-    → IsMerged at snap (cached snap.table ts ps) (cached snap.table (ts ++ snap ∷ []) (ps ++ at ∷ []))
-merged_new at ts ps snap pos len =
+pub merged_new : (at : ℕ) (ts : List TableSnapState) (ps : List ℕ) (snap y : TableSnapState) → position (is_table snap.table) ts ≡ None → length ps ≡ length ts
+    → y.table ≡ snap.table → y.def ≡ snap.def → AreMerged snap.lanes [] y.lanes → IsMerged at snap (cached snap.table ts ps) (cached snap.table (ts ++ y ∷ []) (ps ++ at ∷ []))
+merged_new at ts ps snap y pos len table def seals =
     let none = none_passes (is_table snap.table) ts pos in
-    let to : IsMergedTo at snap None (record { at = at; snap = snap }) = record { place = refl; table = refl; def = refl; seals = λ n b. sym (newer_none (seal_in snap.lanes n b)) } in
-    subst (λ o. IsMerged at snap o (cached snap.table (ts ++ snap ∷ []) (ps ++ at ∷ []))) (sym (not_cached snap.table ts ps none))
-    (subst (IsMerged at snap None) (sym (cached_push snap.table ts ps snap at len refl none)) to)
+    let to : IsMergedTo at snap None (record { at = at; snap = y }) = record { place = refl; table = table; def = def; seals = seals } in
+    subst (λ o. IsMerged at snap o (cached snap.table (ts ++ y ∷ []) (ps ++ at ∷ []))) (sym (not_cached snap.table ts ps none))
+    (subst (IsMerged at snap None) (sym (cached_push snap.table ts ps y at len table none)) to)
+
+-- a table that is found is there
+pub there_found : (t i : ℕ) (ts : List TableSnapState) (ps : List ℕ) → position (is_table t) ts ≡ Some i → length ps ≡ length ts → IsSome (cached t ts ps)
+there_found t i ts ps pos len =
+    let f = position-Some (is_table t) ts i no_snap pos in
+    ap is_some (cached_at t ts ps i f.0 len f.1 f.2)
+
+-- where it is not found, there is room
+pub room_new : (room : Bool) (t : ℕ) (ts : List TableSnapState) (ps : List ℕ) → (room ≡ false → IsSome (cached t ts ps)) → position (is_table t) ts ≡ None → room ≡ true
+room_new true t ts ps there pos = refl
+room_new false t ts ps there pos = sym (ap is_some (not_cached t ts ps (none_passes (is_table t) ts pos))) ∙ there refl
+
+merged_some : (at : ℕ) (snap : TableSnapState) (old new : Option CachedState) → IsMerged at snap old new → IsSome new
+merged_some at snap old None h = absurd h
+merged_some at snap old (Some c) h = refl
+
+-- what is there stays there
+pub stays_there : (at : ℕ) (snap : TableSnapState) (now new : CacheState) → IsMerged at snap (cached_in now snap.table) (cached_in new snap.table)
+    → ((t : ℕ) → t ≢ snap.table → cached_in new t ≡ cached_in now t) → (t : ℕ) → IsSome (cached_in now t) → IsSome (cached_in new t)
+stays_there at snap now new one others t h = elim (cases_eq t snap.table) [
+  | inl same ↦ subst (λ k. IsSome (cached_in new k)) (sym same) (merged_some at snap (cached_in now snap.table) (cached_in new snap.table) one)
+  | inr other ↦ ap is_some (others t other) ∙ h
+]

@@ -1,6 +1,5 @@
 -- Elements of lists that grow at their end, or of which one is set.
-use Rattle.std.proofs.Common.{◌≡◌, ◌≢◌, ◌⊎◌, ℕ, zero, suc, ◌+◌, ◌<◌, ◌≤◌, List, [], ◌∷◌, ◌++◌, length, replicate, slice_index_or, slice_set, refl, sym, ◌∙◌, ap, subst, arith, inl, inr}
-use Rattle.std.proofs.lemmas.List.{get_or-set_same, get_or-set_other, get_or_past, length-set}
+use Rattle.std.proofs.Common.{◌≡◌, ◌⊎◌, ℕ, zero, suc, ◌+◌, ◌<◌, ◌≤◌, List, [], ◌∷◌, ◌++◌, length, replicate, slice_index_or, refl, sym, ◌∙◌, ap, subst, arith, inl, inr}
 use Rattle.std.proofs.lemmas.Bool.{cases_eq}
 use Rattle.std.proofs.Math.ListN.{get_or-append}
 use Rattle.std.proofs.Math.Seq.{get_or-append_seam}
@@ -26,39 +25,7 @@ get_same zero n d = refl
 get_same (suc k) zero d = refl
 get_same (suc k) (suc n) d = get_same k n d
 
--- what holds of each element, where one is set
-pub each_set : {A : Type 0} (Q : ℕ → A → Type 0) (d : A) (xs : List A) (i : ℕ) (x : A) → i < length xs → Q i x
-    → ((n : ℕ) → n ≢ i → Q n (slice_index_or xs n d)) → (n : ℕ) → Q n (slice_index_or (slice_set xs i x) n d)
-each_set Q d xs i x h here others n =
-    elim (cases_eq n i) [
-      | inl same ↦ subst (Q n) (sym (ap (λ j. slice_index_or (slice_set xs i x) j d) same ∙ get_or-set_same xs i x d h)) (subst (λ j. Q j x) (sym same) here)
-      | inr other ↦ subst (Q n) (sym (get_or-set_other xs i n x d other)) (others n other)
-    ]
-
--- from the end on, to `from`, each element is what R makes of the newer one and the one that was there; those before stay
-pub record IsMergedFrom {A : Type 0} (R : A → A → A → Type 0) (d : A) (newest own new : List A) (from : ℕ) : Type 0 where
-  pub len : length new ≡ length own
-  pub merged : (n : ℕ) → from ≤ n → R (slice_index_or newest n d) (slice_index_or own n d) (slice_index_or new n d)
-  pub rest : (n : ℕ) → n < from → slice_index_or new n d ≡ slice_index_or own n d
-
-pub none_merged : {A : Type 0} (R : A → A → A → Type 0) (d : A) (newest own : List A) → length newest ≡ length own → R d d d → IsMergedFrom R d newest own own (length newest)
-none_merged R d newest own e r = record {
-  len = refl;
-  merged = λ n h. subst (λ x. R x (slice_index_or own n d) (slice_index_or own n d)) (sym (get_or_past newest n d h))
-      (subst (λ x. R d x x) (sym (get_or_past own n d (omega (arith, e)))) r);
-  rest = λ n h. refl;
-}
-
-pub merged_more : {A : Type 0} (R : A → A → A → Type 0) (d : A) (newest own new : List A) (from : ℕ) (y : A)
-    → from < length new → IsMergedFrom R d newest own new (from + 1) → R (slice_index_or newest from d) (slice_index_or new from d) y
-    → IsMergedFrom R d newest own (slice_set new from y) from
-merged_more R d newest own new from y h so r = record {
-  len = length-set new from y ∙ so.len;
-  merged = λ n le. elim (cases_eq n from) [
-    | inl same ↦ subst (λ j. R (slice_index_or newest j d) (slice_index_or own j d) (slice_index_or (slice_set new from y) j d)) (sym same)
-        (subst (λ z. R (slice_index_or newest from d) (slice_index_or own from d) z) (sym (get_or-set_same new from y d h))
-        (subst (λ z. R (slice_index_or newest from d) z y) (so.rest from (omega arith)) r))
-    | inr other ↦ subst (λ z. R (slice_index_or newest n d) (slice_index_or own n d) z) (sym (get_or-set_other new from n y d other)) (so.merged n (omega arith))
-  ];
-  rest = λ n lt. get_or-set_other new from n y d (λ e. absurd (omega (arith, e))) ∙ so.rest n (omega arith);
-}
+pub get_replicated : {A : Type 0} (k n : ℕ) (x d : A) → n < k → slice_index_or (replicate k x) n d ≡ x
+get_replicated zero n x d h = absurd (omega arith)
+get_replicated (suc k) zero x d h = refl
+get_replicated (suc k) (suc n) x d h = get_replicated k n x d (omega arith)

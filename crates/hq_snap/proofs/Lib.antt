@@ -1,3 +1,5 @@
 pub mod Cached
 pub mod Elements
+pub mod Files
+pub mod Placed
 pub mod Since

@@ -1,8 +1,10 @@
 //! Tables as looks saw them, kept.
-ghost use Rattle.std.specs.Prelude.{◌≡◌, ◌≢◌, ◌+◌, ◌<◌, ◌≤◌, ◌++◌, ◌∷◌, ℕ, [], length, vec_len, vec_capacity, position, IfOk, OnOk, OnErr};
+ghost use Rattle.std.specs.Prelude.{◌≡◌, ◌≢◌, ◌+◌, ◌<◌, ◌≤◌, ◌++◌, ◌∷◌, ℕ, true, false, [], length, take, vec_len, vec_capacity, position, IfOk, IsSome, OnOk, OnErr};
 ghost use Rattle.hq_snap.specs.Caches.{have_of, have_one, is_table, cached, IsMerged, MergesAll};
+ghost use Rattle.hq_snap.specs.Deltas.{HaveRoom, room_at};
 
-use crate::{Have, Scope, TableSnap};
+use crate::room::Room;
+use crate::{Have, Scope, TableDelta, TableSnap};
 use hq_store::SealCopy;
 use hq_value::NoMemory;
 use std::alloc::Global;
@@ -52,7 +54,7 @@ impl<Z: SealCopy> SnapCache<Z> {
     }
 
     /// Takes what a look at place `at` of the log brought. Without memory the cache stays as it was.
-    pub fn merge(&mut self, at: u64, delta: Vec<TableSnap<Z>>) -> Result<(), NoMemory>
+    pub fn merge(&mut self, at: u64, delta: Vec<TableDelta<Z>>) -> Result<(), NoMemory>
         ensures same { OnErr result (self.new ≡ self.old) }
         ensures merged { OnOk result (MergesAll at delta.items self.old self.new) }
     {
@@ -62,7 +64,8 @@ impl<Z: SealCopy> SnapCache<Z> {
         if self.places.reserve(delta.len()).is_err() {
             return Err(NoMemory);
         }
-        merge_all(&mut self.tables, &mut self.places, at, delta);
+        let rooms = rooms_for(&self.tables, &self.places, &delta)?;
+        merge_all(&mut self.tables, &mut self.places, at, delta, rooms);
         Ok(())
     }
 }
@@ -101,22 +104,73 @@ fn add_have<Z: SealCopy>(
     Ok(())
 }
 
+// Of each of these tables room for it, if it is not there yet.
+fn rooms_for<Z: SealCopy>(
+    tables: &Vec<TableSnap<Z>>,
+    places: &Vec<u64>,
+    delta: &Vec<TableDelta<Z>>,
+) -> Result<Vec<Room<Z>>, NoMemory>
+    requires { length places.now.items ≡ length tables.now.items }
+    ensures { IfOk result (λ rooms. HaveRoom delta.now.items rooms.items tables.now.items places.now.items) }
+{
+    let alloc = *tables.allocator();
+    let mut rooms = Vec::with_capacity(alloc, delta.len())?;
+    for i in 0..delta.len() {
+        rooms.push(room_for(alloc, tables, places, delta[i].table())?)?;
+    }
+    Ok(rooms)
+}
+
+#[tactic(auto, using(crate::proofs::Cached::there_found))]
+fn room_for<Z: SealCopy>(
+    alloc: Global,
+    tables: &[TableSnap<Z>],
+    places: &[u64],
+    table: u32,
+) -> Result<Room<Z>, NoMemory>
+    requires { length places.now ≡ length tables.now }
+    ensures { IfOk result (λ room. room ≡ false → IsSome (cached table tables.now places.now)) }
+{
+    // Its clause says how many places there are.
+    let _ = places.len();
+    match position_of(tables, table) {
+        Some(_) => Ok(Room::none()),
+        None => Room::new(alloc),
+    }
+}
+
 // Merges each of these tables. There is room for all.
 fn merge_all<Z: SealCopy>(
     tables: &mut Vec<TableSnap<Z>>,
     places: &mut Vec<u64>,
     at: u64,
-    delta: Vec<TableSnap<Z>>,
+    delta: Vec<TableDelta<Z>>,
+    rooms: Vec<Room<Z>>,
 )
     requires same { length places.old.items ≡ length tables.old.items }
     requires room { vec_len tables.old + vec_len delta ≤ vec_capacity tables.old }
     requires more_room { vec_len places.old + vec_len delta ≤ vec_capacity places.old }
+    requires rooms { HaveRoom delta.items rooms.items tables.old.items places.old.items }
     ensures same { length places.new.items ≡ length tables.new.items }
     ensures merged { MergesAll at delta.items (record { tables = tables.old.items; places = places.old.items }) (record { tables = tables.new.items; places = places.new.items }) }
 {
     let mut delta = delta;
-    while let Some(snap) = delta.pop() {
-        merge_one(tables, places, at, snap);
+    let mut rooms = rooms;
+    while let Some(newest) = delta.pop() {
+        let room = last_room(&mut rooms);
+        merge_one(tables, places, at, newest, room);
+    }
+}
+
+fn last_room<Z: SealCopy>(rooms: &mut Vec<Room<Z>>) -> Room<Z>
+    requires { 0 < vec_len rooms.old }
+    ensures room { result ≡ room_at rooms.old.items (vec_len rooms.new) }
+    ensures rest { rooms.new.items ≡ take (vec_len rooms.new) rooms.old.items }
+    ensures len { vec_len rooms.new + 1 ≡ vec_len rooms.old }
+{
+    match rooms.pop() {
+        Some(room) => room,
+        None => unreachable!(),
     }
 }
 
@@ -125,25 +179,27 @@ fn merge_one<Z: SealCopy>(
     tables: &mut Vec<TableSnap<Z>>,
     places: &mut Vec<u64>,
     at: u64,
-    snap: TableSnap<Z>,
+    newest: TableDelta<Z>,
+    room: Room<Z>,
 )
     requires same { length places.old.items ≡ length tables.old.items }
     requires room { vec_len tables.old < vec_capacity tables.old }
     requires more_room { vec_len places.old < vec_capacity places.old }
+    requires there { room ≡ false → IsSome (cached newest.table tables.old.items places.old.items) }
     ensures same { length places.new.items ≡ length tables.new.items }
     ensures len { vec_len tables.new ≤ vec_len tables.old + 1 }
     ensures room { vec_capacity tables.old ≤ vec_capacity tables.new }
     ensures more_room { vec_capacity places.old ≤ vec_capacity places.new }
-    ensures merged { IsMerged at snap (cached snap.table tables.old.items places.old.items) (cached snap.table tables.new.items places.new.items) }
-    ensures others { (t : ℕ) → t ≢ snap.table → cached t tables.new.items places.new.items ≡ cached t tables.old.items places.old.items }
+    ensures merged { IsMerged at newest (cached newest.table tables.old.items places.old.items) (cached newest.table tables.new.items places.new.items) }
+    ensures others { (t : ℕ) → t ≢ newest.table → cached t tables.new.items places.new.items ≡ cached t tables.old.items places.old.items }
 {
-    match position_of(tables, snap.table()) {
+    match position_of(tables, newest.table()) {
         Some(i) => {
-            tables[i].merge(snap);
+            tables[i].merge(newest);
             places[i] = at;
         }
         None => {
-            push_snap(tables, snap);
+            push_snap(tables, TableSnap::new(newest, room));
             push_place(places, at);
         }
     }

@@ -1,6 +1,8 @@
 //! When files changed.
 ghost use Rattle.std.specs.Prelude.{◌≡◌, ◌<◌, ◌≤◌, ℕ, true, length, replicate, slice_set, IfOk};
+ghost use Rattle.std.specs.Option.{ForSome};
 ghost use Rattle.hq_snap.specs.Snaps.{change_at, changes_in};
+ghost use Rattle.hq_snap.specs.Deltas.{OthersAreAtMost};
 
 use hq_value::NoMemory;
 use std::alloc::Global;
@@ -11,18 +13,22 @@ use std::marker::Model;
 pub struct LaneChanges {
     // None of the places is above it, so that a look passes over a lane that did not change.
     latest: u64,
+    // The bucket of the file that was noted last. Of the other files no place is above `others`, so that a look passes
+    // over them where they did not change.
+    last: u8,
+    others: u64,
     places: [u64; 16],
 }
 
 impl Model for LaneChanges {
-    ghost use Rattle.std.specs.Prelude.{◌≤◌, ℕ, List};
-    ghost use Rattle.hq_snap.specs.Snaps.{change_at};
+    ghost use Rattle.std.specs.Prelude.{◌<◌, ℕ, List};
+    ghost use Rattle.hq_snap.specs.Deltas.{AreAtMost, OthersAreAtMost};
 
     ghost Value = { List ℕ };
 
     ghost view = { λ changes. changes.places };
 
-    ghost invariant = { λ changes. (b : ℕ) → change_at changes.places b ≤ changes.latest };
+    ghost invariant = { λ changes. AreAtMost changes.latest changes.places × OthersAreAtMost changes.others changes.last changes.places × (changes.last < 16) };
 }
 
 /// Of each file of the 64 lanes of a table the place of the log behind the last Commit that changed it, or 0. It is seen
@@ -48,6 +54,8 @@ impl LaneChanges {
     {
         LaneChanges {
             latest: 0,
+            last: 0,
+            others: 0,
             places: [0; 16],
         }
     }
@@ -66,10 +74,25 @@ impl LaneChanges {
         self.places[bucket]
     }
 
+    // The bucket of the only file that may have changed since, where that is known.
+    pub(crate) fn only(&self, at: u64) -> Option<u8>
+        ensures { ForSome result (λ bucket. (bucket < 16) × OthersAreAtMost at bucket self.now) }
+    {
+        if self.others <= at {
+            Some(self.last)
+        } else {
+            None
+        }
+    }
+
     fn note(&mut self, bucket: u8, place: u64)
         requires { bucket < 16 }
         ensures { self.new ≡ slice_set self.old bucket place }
     {
+        if bucket != self.last {
+            self.others = self.latest;
+            self.last = bucket;
+        }
         self.places[bucket as usize] = place;
         self.latest = self.latest.max(place);
     }
@@ -91,6 +114,17 @@ impl Changed {
         ensures { self.new ≡ slice_set self.old lane (slice_set (changes_in self.old lane) bucket place) }
     {
         self.lanes[lane as usize].note(bucket, place);
+    }
+
+    /// How many lanes may have changed since. No clause says more of it: it tells how much room to begin with.
+    pub(crate) fn lanes_since(&self, at: u64) -> usize {
+        let mut count = 0usize;
+        for lane in &self.lanes {
+            if !lane.is_still(at) {
+                count = count.saturating_add(1);
+            }
+        }
+        count
     }
 
     pub(crate) fn lane(&self, lane: usize) -> &LaneChanges

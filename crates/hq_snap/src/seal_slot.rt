@@ -1,9 +1,8 @@
 //! The place of a seal.
-ghost use Rattle.std.specs.Prelude.{◌≡◌, ◌<◌, ◌^◌, Some, None, IfOk, option_map, nat_lt};
-ghost use Rattle.hq_snap.specs.Snaps.{seal_len, kept_if, newer};
+ghost use Rattle.std.specs.Prelude.{◌≡◌, ◌<◌, ◌^◌, Some, None, option_map};
+ghost use Rattle.hq_snap.specs.Snaps.{seal_len};
 
 use hq_store::SealCopy;
-use hq_value::NoMemory;
 use std::marker::Model;
 
 /// The seal of a file, where the file has one.
@@ -48,39 +47,6 @@ impl<Z: SealCopy> SealSlot<Z> {
         match &self.seal {
             None => 0,
             Some(seal) => seal.len(),
-        }
-    }
-
-    /// A seal of the same bytes, where there is one.
-    pub fn copy(&self) -> Result<SealSlot<Z>, NoMemory>
-        ensures { IfOk result (λ copy. copy ≡ self.now) }
-    {
-        match &self.seal {
-            None => Ok(SealSlot { seal: None }),
-            Some(seal) => Ok(SealSlot {
-                seal: Some(seal.copy()?),
-            }),
-        }
-    }
-
-    /// The same, where the file has changed since; `change` is the place behind the last Commit that changed it.
-    pub(crate) fn copy_since(&self, change: u64, at: u64) -> Result<SealSlot<Z>, NoMemory>
-        ensures { IfOk result (λ copy. copy ≡ kept_if (nat_lt at change) self.now) }
-    {
-        if at < change {
-            self.copy()
-        } else {
-            Ok(SealSlot::empty())
-        }
-    }
-
-    /// Takes the newer seal, where there is one.
-    pub(crate) fn merge(&mut self, newest: SealSlot<Z>)
-        ensures { self.new ≡ newer newest self.old }
-    {
-        match newest.seal {
-            None => {}
-            Some(seal) => self.seal = Some(seal),
         }
     }
 }

@@ -1,12 +1,13 @@
 //! A table as a look saw it.
-ghost use Rattle.std.specs.Prelude.{◌≡◌, ◌*◌, ◌^◌, ◌<◌, ◌≤◌, ℕ, length, slice_set, IfOk};
-ghost use Rattle.hq_snap.specs.Snaps.{table_length, lane_in, changes_in, AreSince, AreSinceIn, AreMerged, AreMergedIn};
+ghost use Rattle.std.specs.Prelude.{◌≡◌, ◌*◌, ◌^◌, ◌≤◌, [], length};
+ghost use Rattle.hq_snap.specs.Snaps.{table_length, AreMerged};
 
 use crate::LaneSeals;
-use crate::changes::Changed;
+use crate::room::Room;
+use crate::table_delta::TableDelta;
+use crate::table_seals::TableSeals;
 use hq_store::SealCopy;
-use hq_value::{NoMemory, TableDef};
-use std::alloc::Global;
+use hq_value::TableDef;
 use std::marker::Model;
 
 /// A table as a look saw it: its number, its definition, and the seals of its 64 lanes.
@@ -14,21 +15,34 @@ use std::marker::Model;
 pub struct TableSnap<Z: SealCopy> {
     table: u32,
     def: TableDef,
-    lanes: Vec<LaneSeals<Z>>,
+    seals: TableSeals<Z>,
 }
 
 impl<Z: SealCopy> Model for TableSnap<Z> {
-    ghost use Rattle.std.specs.Prelude.{◌≡◌, length};
     ghost use Rattle.hq_snap.specs.Snaps.{TableSnapState};
 
     ghost Value = { TableSnapState };
 
-    ghost view = { λ s. record { table = s.table; def = s.def; lanes = s.lanes.items } };
-
-    ghost invariant = { λ s. length s.lanes.items ≡ 64 };
+    ghost view = { λ s. record { table = s.table; def = s.def; lanes = s.seals } };
 }
 
 impl<Z: SealCopy> TableSnap<Z> {
+    ghost use Rattle.std.specs.Prelude.{true};
+
+    /// What was brought of a table that was not known before. There has to be room.
+    pub(crate) fn new(delta: TableDelta<Z>, room: Room<Z>) -> TableSnap<Z>
+        requires { room ≡ true }
+        ensures table { result.table ≡ delta.table }
+        ensures def { result.def ≡ delta.def }
+        ensures seals { AreMerged delta.lanes [] result.lanes }
+    {
+        let table = delta.table();
+        let (def, files) = delta.into_parts();
+        let mut seals = room.into_places();
+        seals.merge(files);
+        TableSnap { table, def, seals }
+    }
+
     /// The table's number.
     pub fn table(&self) -> u32
         ensures { result ≡ self.now.table }
@@ -47,88 +61,27 @@ impl<Z: SealCopy> TableSnap<Z> {
         ensures lanes { result.now ≡ self.now.lanes }
         ensures count { length result.now ≡ 64 }
     {
-        &self.lanes
+        self.seals.lanes()
     }
 
     /// How many bytes lie under the table's seals.
     pub fn length(&self) -> u128
         ensures { result ≡ table_length self.now.lanes }
     {
-        length_of_lanes(&self.lanes)
+        length_of_lanes(self.seals.lanes())
     }
 
     /// The same table as a later look saw it: `newest` has its definition, and the seals of the files that changed.
-    pub fn merge(&mut self, newest: TableSnap<Z>)
+    #[tactic(auto, using(crate::proofs::Placed::merged_of))]
+    pub fn merge(&mut self, newest: TableDelta<Z>)
         ensures table { self.new.table ≡ self.old.table }
         ensures def { self.new.def ≡ newest.def }
         ensures seals { AreMerged newest.lanes self.old.lanes self.new.lanes }
     {
-        let TableSnap {
-            table: _,
-            def,
-            lanes,
-        } = newest;
+        let (def, files) = newest.into_parts();
         self.def = def;
-        merge_lanes(&mut self.lanes, lanes);
+        self.seals.merge(files);
     }
-}
-
-/// A table with an equal definition, and seals of the same bytes for the files that a Commit at this place of the log or
-/// behind it changed. Other files have none.
-pub fn copy_since<Z: SealCopy>(
-    alloc: Global,
-    table: u32,
-    def: &TableDef,
-    lanes: &[LaneSeals<Z>],
-    changed: &Changed,
-    at: u64,
-) -> Result<TableSnap<Z>, NoMemory>
-    requires { length lanes.now ≡ 64 }
-    ensures table { IfOk result (λ snap. snap.table ≡ table) }
-    ensures def { IfOk result (λ snap. snap.def ≡ def.now) }
-    ensures seals { IfOk result (λ snap. AreSince changed.now at lanes.now snap.lanes) }
-{
-    let def = def.copy()?;
-    let lanes = copy_lanes(alloc, lanes, changed, at)?;
-    Ok(TableSnap { table, def, lanes })
-}
-
-fn copy_lanes<Z: SealCopy>(
-    alloc: Global,
-    lanes: &[LaneSeals<Z>],
-    changed: &Changed,
-    at: u64,
-) -> Result<Vec<LaneSeals<Z>>, NoMemory>
-    requires { length lanes.now ≡ 64 }
-    ensures len { IfOk result (λ copy. length copy.items ≡ 64) }
-    ensures since { IfOk result (λ copy. (n : ℕ) → n < 64 → AreSinceIn (changes_in changed.now n) at (lane_in lanes.now n) (lane_in copy.items n)) }
-{
-    let mut copy = Vec::with_capacity(alloc, 64)?;
-    for n in 0..64usize {
-        copy.push(lanes[n].copy_since(alloc, changed.lane(n), at)?)?;
-    }
-    Ok(copy)
-}
-
-// Puts the newer seals of each lane to its own ones.
-fn merge_lanes<Z: SealCopy>(own: &mut Vec<LaneSeals<Z>>, newest: Vec<LaneSeals<Z>>)
-    requires { length newest.items ≡ length own.old.items }
-    ensures len { length own.new.items ≡ length own.old.items }
-    ensures merged { AreMerged newest.items own.old.items own.new.items }
-{
-    let mut newest = newest;
-    while let Some(lane) = newest.pop() {
-        let n = newest.len();
-        merge_lane(own, n, lane);
-    }
-}
-
-fn merge_lane<Z: SealCopy>(own: &mut Vec<LaneSeals<Z>>, n: usize, newest: LaneSeals<Z>)
-    requires { n < length own.old.items }
-    ensures set { own.new.items ≡ slice_set own.old.items n (lane_in own.new.items n) }
-    ensures merged { AreMergedIn newest (lane_in own.old.items n) (lane_in own.new.items n) }
-{
-    own[n].merge(newest);
 }
 
 fn length_of_lanes<Z: SealCopy>(lanes: &[LaneSeals<Z>]) -> u128

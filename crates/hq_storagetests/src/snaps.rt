@@ -1,7 +1,7 @@
 //! What a look brings of a table, and what a cache makes of it.
 
 use hq_cases as cases;
-use hq_snap::{Changed, Have, LaneSeals, Scope, SnapCache, TableSnap, copy_since};
+use hq_snap::{Changed, Have, LaneSeals, Scope, SnapCache, TableDelta, TableSnap, copy_since};
 use hq_store::{MemSeal, MemStore, SealCopy, Store, StoreFault};
 use hq_value::{Column, Columns, FileId, Keys, Kind, Name, NoMemory, TableDef};
 use std::alloc::Global;
@@ -60,6 +60,20 @@ fn scope_of(alloc: Global, text: &str) -> Result<Scope, Fail> {
         return Ok(Scope::All);
     }
     Ok(Scope::Names(names))
+}
+
+// The seals that a look brought, as lane, bucket and length.
+fn show_changed(rt: HostRuntime, delta: &TableDelta<MemSeal>) -> Result<(), Fail> {
+    let mut bytes = 0u64;
+    for file in delta.files() {
+        bytes = bytes.saturating_add(file.seal().len());
+    }
+    print!(rt; " table {}, {bytes} bytes:", delta.table())?;
+    for file in delta.files() {
+        print!(rt; " {}.{} {}", file.lane(), file.bucket(), file.seal().len())?;
+    }
+    println!(rt; "")?;
+    Ok(())
 }
 
 // The seals of a table, as lane, bucket and length.
@@ -123,11 +137,11 @@ impl Case {
         if self.lanes.len() != 64 {
             return Ok(());
         }
-        let snap = copy_since(alloc, 3, &self.def, &self.lanes, &self.changed, at)?;
+        let delta = copy_since(alloc, 3, &self.def, &self.lanes, &self.changed, at)?;
         print!(rt; "  since {at},")?;
-        show_seals(rt, &snap)?;
+        show_changed(rt, &delta)?;
         self.cache
-            .merge(u64::from(self.place), vec![in alloc; snap]?)?;
+            .merge(u64::from(self.place), vec![in alloc; delta]?)?;
         self.place = self.place.saturating_add(1);
         for cached in self.cache.tables() {
             print!(rt; "  cached,")?;
