@@ -1,9 +1,11 @@
 pub mod Chaining
+pub mod Compares
 pub mod Firsts
 pub mod Folds
 pub mod Gathers
 pub mod Grouped
 pub mod Grouping
+pub mod Guessing
 pub mod Joining
 pub mod Limits
 pub mod Ordered

@@ -1,4 +1,5 @@
 -- Groups, and what aggregates have come to in them.
+--     HasPlace y keys news index fresh           a key has its group at an index
 --     started fresh olds                         the places of the groups, one more where it is new
 --     GrewAt c index fresh row olds news         a row was added in its group
 --     IsTally by rows tally                      what an aggregate has come to in each group
@@ -10,9 +11,11 @@
 --     group_row by columns rows k                the key of a group, and what stands for each aggregate over its rows
 --     group_rows by columns rows                 the same of each group, by first appearance
 --     some_fault by columns rows                 reading faults over some row, or a count or a sum of some group leaves 64 bits
-use Rattle.std.specs.Prelude.{◌≡◌, ℕ, Bool, false, ◌||◌, List, [], ◌∷◌, ◌++◌, ◌+◌, ◌<◌, length, All, map, flat_map, slice_index_or, slice_set, if◌then◌else◌}
-use Rattle.std.specs.List.{list_any}
+use Rattle.std.specs.Prelude.{◌≡◌, ℕ, Bool, false, not, ◌||◌, List, [], ◌∷◌, ◌++◌, ◌+◌, ◌<◌, length, All, map, flat_map, slice_index_or, slice_set, if◌then◌else◌}
+use Rattle.std.specs.List.{list_any, position_or_len}
+use Rattle.std.specs.Cmp.Lexicographic.{pointwise}
 use Rattle.hq_value.specs.declared.value.Value.{Value}
+use Rattle.hq_value.specs.contracts.value.ValuePartialEq.TheImpl as partial
 use Rattle.hq_meaning.specs.Rows.{Row, firsts}
 use Rattle.hq_meaning.specs.Groups.{keys_found, members}
 use Rattle.hq_ops.specs.declared.column.Column.{Column}
@@ -22,6 +25,12 @@ use Rattle.hq_ops.specs.declared.running.Running.{Running}
 use Rattle.hq_ops.specs.declared.running.Running.TheVariants as running
 use Rattle.hq_ops.specs.Columns.{reads, reads_fault, joins, comes, seen, given, leaves}
 use Rattle.hq_ops.specs.Grouping.{key_by, width_by}
+
+-- a key has its group at this index; where it is new it stands behind the others
+pub record HasPlace (y : Row) (keys news : List Row) (index : ℕ) (fresh : Bool) : Type 0 where
+  pub keys_are : news ≡ (if list_any (λ w. pointwise (partial.ghosts).eq y w) keys then keys else keys ++ y ∷ [])
+  pub fresh_is : fresh ≡ not (list_any (λ w. pointwise (partial.ghosts).eq y w) keys)
+  pub index_is : index ≡ position_or_len (λ w. pointwise (partial.ghosts).eq y w) keys
 
 -- the places of the groups, one more where it is new
 abbrev pub started : Bool → List Running → List Running

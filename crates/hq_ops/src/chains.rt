@@ -60,7 +60,8 @@ impl<'a> Chains<'a> {
     }
 }
 
-fn filled(alloc: Global, count: usize, value: usize) -> Result<Vec<usize>, NoMemory>
+/// So many times a number.
+pub fn filled(alloc: Global, count: usize, value: usize) -> Result<Vec<usize>, NoMemory>
     ensures { IfOk result (λ items. items.items ≡ replicate count value) }
 {
     let mut items = Vec::with_capacity(alloc, count)?;
@@ -100,9 +101,9 @@ fn chain_of(count: usize, keys: &[u16], row: &Row) -> usize
     (hash_of(0, keys, row) / UPPER_HALF % count as u64) as usize
 }
 
-// The hash of the columns at these places, where so much was hashed before them.
+/// The hash of the columns at these places, where so much was hashed before them.
 #[inline]
-fn hash_of(hash: u64, keys: &[u16], row: &Row) -> u64
+pub fn hash_of(hash: u64, keys: &[u16], row: &Row) -> u64
     ensures { result ≡ hash_from hash (key_of keys.now row.now) }
 {
     match keys {
@@ -111,22 +112,32 @@ fn hash_of(hash: u64, keys: &[u16], row: &Row) -> u64
     }
 }
 
+/// The hash of values, where so much was hashed before them.
+pub fn hash_of_values(hash: u64, values: &[Value]) -> u64
+    ensures { result ≡ hash_from hash values.now }
+{
+    match values {
+        [] => hash,
+        [value, rest @ ..] => hash_of_values(with_value(hash, value), rest),
+    }
+}
+
 // The hash with the value at a place more; NULL past the end, where no column of a plan is.
 #[inline]
 fn with_column(hash: u64, row: &Row, place: usize) -> u64
     ensures { result ≡ fed hash (column row.now place) }
 {
-    (hash ^ number_at(row, place)).wrapping_mul(HASH_FACTOR)
+    match row.as_slice().get(place) {
+        Some(value) => with_value(hash, value),
+        None => with_value(hash, &Value::Null),
+    }
 }
 
 #[inline]
-fn number_at(row: &Row, place: usize) -> u64
-    ensures { result ≡ number_for (column row.now place) }
+fn with_value(hash: u64, value: &Value) -> u64
+    ensures { result ≡ fed hash value.now }
 {
-    match row.as_slice().get(place) {
-        Some(value) => number_for(value),
-        None => number_for(&Value::Null),
-    }
+    (hash ^ number_for(value)).wrapping_mul(HASH_FACTOR)
 }
 
 // An Int stands for itself, any other value for its hash.

@@ -15,6 +15,7 @@ use crate::end::Stop;
 use crate::halves::halves_at;
 use crate::parts::{Parts, best_part, count_part, final_count, final_sum, half_parts};
 use crate::running::Running;
+use crate::standing::standing;
 use hq_algebra::{Expr, Seen, look};
 use hq_value::{Row, Value};
 
@@ -76,7 +77,18 @@ fn at_place(row: &Row, place: u32) -> Seen<'_>
 }
 
 // The value of an expression over a row, which is not copied.
+#[inline]
 fn looked<'a>(e: &'a Expr, row: &'a Row) -> Result<Seen<'a>, Stop>
+    ensures value { IfOk result (λ seen. value_of seen ≡ value_at e.now row.now) }
+    ensures numeric { StopsAt result (faults_at e.now row.now) }
+{
+    match standing(e, row.as_slice()) {
+        Some(value) => Ok(Seen::Kept(value)),
+        None => computed(e, row),
+    }
+}
+
+fn computed<'a>(e: &'a Expr, row: &'a Row) -> Result<Seen<'a>, Stop>
     ensures value { IfOk result (λ seen. value_of seen ≡ value_at e.now row.now) }
     ensures numeric { StopsAt result (faults_at e.now row.now) }
 {

@@ -1,19 +1,20 @@
 //! Rows gathered into groups, aggregate by aggregate.
-ghost use Rattle.std.specs.Prelude.{◌≡◌, ◌==◌, ◌&&◌, ◌<◌, ◌++◌, ◌∷◌, [], List, All, IfOk, OnOk, length, map, flat_map, false};
+ghost use Rattle.std.specs.Prelude.{◌≡◌, ◌==◌, ◌&&◌, ◌<◌, ◌++◌, ◌∷◌, ◌+◌, if◌then◌else◌, [], List, All, IfOk, OnOk, IfSome, length, map, flat_map, false};
 ghost use Rattle.std.specs.List.{list_any};
 ghost use Rattle.hq_value.specs.declared.value.Value.{Value as Datum};
 ghost use Rattle.hq_ops.specs.declared.column.Column.{Column as Read};
 ghost use Rattle.hq_ops.specs.declared.groups.GroupBy.{GroupBy as By};
 ghost use Rattle.hq_ops.specs.Columns.{seen, reads_fault};
 ghost use Rattle.hq_ops.specs.Ends.{StopsAt};
-ghost use Rattle.hq_ops.specs.Gathering.{started, GrewAt, HasGathered, AreEven, AllGrew, row_faults, given_at, leaves_at, rows_from, leaves_from, group_rows, group_leaves};
-ghost use Rattle.hq_ops.specs.Grouping.{width_by};
+ghost use Rattle.hq_ops.specs.Gathering.{HasPlace, started, GrewAt, HasGathered, AreEven, AllGrew, row_faults, given_at, leaves_at, rows_from, leaves_from, group_rows, group_leaves};
+ghost use Rattle.hq_ops.specs.Grouping.{key_by, width_by};
 ghost use Rattle.hq_ops.specs.Parts.{listed};
 
 use crate::column::Column;
 use crate::end::Stop;
 use crate::gathered::{Gathered, Tally};
 use crate::groups::GroupBy;
+use crate::guesses::Guesses;
 use crate::parts::Parts;
 use crate::running::Running;
 use hq_value::{NoMemory, Row};
@@ -27,6 +28,7 @@ pub fn nothing_gathered<'a>(alloc: Global, columns: &[Column<'a>]) -> Result<Gat
     let tallies = empty_tallies(alloc, columns)?;
     Ok(Gathered {
         keys: IndexSet::new(alloc),
+        guesses: Guesses::none(alloc),
         tallies,
     })
 }
@@ -58,13 +60,22 @@ pub fn gather<'a>(
         IfOk result (λ g. HasGathered by.now columns (before ++ rows.now) g.keys.keys g.tallies.items) }
     ensures numeric { StopsAt result (list_any (row_faults (map (λ t. t.column) gathered.entry.tallies.items)) rows.now) }
 {
-    let Gathered { keys, tallies } = gathered;
+    let Gathered {
+        keys,
+        guesses,
+        tallies,
+    } = gathered;
     let mut keys = keys;
+    let mut guesses = guesses;
     let mut tallies = tallies;
     for row in rows {
-        gather_row(alloc, by, &mut keys, &mut tallies, row)?;
+        gather_row(alloc, by, &mut keys, &mut guesses, &mut tallies, row)?;
     }
-    Ok(Gathered { keys, tallies })
+    Ok(Gathered {
+        keys,
+        guesses,
+        tallies,
+    })
 }
 
 // One row more.
@@ -72,6 +83,7 @@ fn gather_row(
     alloc: Global,
     by: &GroupBy,
     keys: &mut IndexSet<Row>,
+    guesses: &mut Guesses,
     tallies: &mut Vec<Tally>,
     row: &Row,
 ) -> Result<(), Stop>
@@ -83,8 +95,43 @@ fn gather_row(
         OnOk result (HasGathered by.now columns (before ++ row.now ∷ []) keys.new.keys tallies.new.items) }
     ensures numeric { StopsAt result (row_faults (map (λ t. t.column) tallies.old.items) row.now) }
 {
-    let (index, fresh) = keys.insert_full(by.key(alloc, row)?)?;
+    let (index, fresh) = group_of(alloc, by, keys, guesses, row)?;
     add_to_all(tallies, index, fresh, row)
+}
+
+// The index of the group of a row, and whether it is new. Only where the guess fails has the row a key of its own.
+fn group_of(
+    alloc: Global,
+    by: &GroupBy,
+    keys: &mut IndexSet<Row>,
+    guesses: &mut Guesses,
+    row: &Row,
+) -> Result<(usize, bool), NoMemory>
+    ensures found { IfOk result (λ r. HasPlace (key_by by.now row.now) keys.old.keys keys.new.keys r.0 r.1) }
+    ensures len { IfOk result (λ r. length keys.new.keys ≡ length keys.old.keys + (if r.1 then 1 else 0)) }
+    ensures within { IfOk result (λ r. r.0 < length keys.new.keys) }
+{
+    let hash = by.hash(row);
+    if let Some(index) = guessed(by, keys, guesses.at(hash), row) {
+        return Ok((index, false));
+    }
+    let (index, fresh) = keys.insert_full(by.key(alloc, row)?)?;
+    guesses.note(alloc, hash, index, keys.len())?;
+    Ok((index, fresh))
+}
+
+// The guess, where the group there has the row's key.
+#[inline]
+fn guessed(by: &GroupBy, keys: &IndexSet<Row>, guess: Option<usize>, row: &Row) -> Option<usize>
+    ensures found { IfSome result (λ index. HasPlace (key_by by.now row.now) keys.now.keys keys.now.keys index false) }
+    ensures within { IfSome result (λ index. index < length keys.now.keys) }
+{
+    let index = guess?;
+    let key = keys.as_slice().get(index)?;
+    if !by.is_key(key, row) {
+        return None;
+    }
+    Some(index)
 }
 
 // What is read of a row is added in its group, in each tally.

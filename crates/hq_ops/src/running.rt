@@ -1,5 +1,5 @@
 //! What an aggregate has come to over the rows so far.
-ghost use Rattle.std.specs.Prelude.{◌≡◌, IfOk, OnOk, IfSome, Some};
+ghost use Rattle.std.specs.Prelude.{◌≡◌, ◌+ℤ◌, IfOk, OnOk, IfSome, Some};
 ghost use Rattle.std.specs.Ordering.{is_gt};
 ghost use Rattle.hq_meaning.specs.Aggregates.{plus, sum_of, sooner, from_number};
 ghost use Rattle.hq_ops.specs.Folds.{number_of, order_of};
@@ -83,20 +83,12 @@ impl Running {
     fn add_number(&mut self, n: i64) -> Result<(), NoMemory>
         ensures { OnOk result (sum_in self.new ≡ sum_of (sum_in self.old) (Some n)) }
     {
-        let Some(sum) = self.sum_with(n) else {
-            return Err(NoMemory);
-        };
-        *self = Running::Sum(sum);
-        Ok(())
-    }
-
-    // The sum with a number more; none where no such sum is kept, which takes more rows than there are.
-    fn sum_with(&self, n: i64) -> Option<i128>
-        ensures { IfSome result (λ sum. sum_of (sum_in self.now) (Some n) ≡ Some sum) }
-    {
         match self {
-            Running::Sum(sum) => sum.checked_add(n as i128),
-            _ => Some(n as i128),
+            Running::Sum(sum) => add_to_sum(sum, n),
+            _ => {
+                *self = Running::Sum(n as i128);
+                Ok(())
+            }
         }
     }
 
@@ -126,5 +118,19 @@ impl Running {
             Running::Best(best) => extreme.compare(best, value).is_gt(),
             _ => extreme.compare(&Value::Null, value).is_gt(),
         }
+    }
+}
+
+// The sum with a number more. No such sum is kept where it leaves 128 bits, which takes more rows than there are.
+#[inline]
+fn add_to_sum(sum: &mut i128, n: i64) -> Result<(), NoMemory>
+    ensures { OnOk result (sum.new ≡ sum.old +ℤ n) }
+{
+    match sum.checked_add(n as i128) {
+        Some(more) => {
+            *sum = more;
+            Ok(())
+        }
+        None => Err(NoMemory),
     }
 }
