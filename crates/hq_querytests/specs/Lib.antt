@@ -1,0 +1,3 @@
+-- The plans of the queries, and their benches.
+pub mod Benches
+pub mod Works
