@@ -18,9 +18,10 @@ TABLES = {
     "group": [("u", ROWS, "i, i * 7919 %% 1000")],
     "join": [("u", ROWS, "i, i * 7919 %% 1000003"), ("v", ROWS // 10, "i, i * 10")],
 }
+# In row order, as ours come.
 SELECTS = {
-    "group": "SELECT n, count(*), sum(k) FROM u GROUP BY n",
-    "join": "SELECT u.k AS a, v.k AS b FROM u JOIN v ON u.n = v.n",
+    "group": "SELECT n, count(*), sum(k) FROM u GROUP BY n ORDER BY n",
+    "join": "SELECT u.k AS a, v.k AS b FROM u JOIN v ON u.n = v.n ORDER BY u.k, v.k",
 }
 
 

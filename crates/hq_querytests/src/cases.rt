@@ -121,6 +121,16 @@ fn show_asked(line: &mut String, end: &Option<QueryEnd>) -> Result<(), Fail> {
     Ok(())
 }
 
+// How many troubles a link met. From 32 on it may be lost, and no rule says how many more come to it before.
+fn show_troubles(line: &mut String, troubles: u64) -> Result<(), Fail> {
+    if troubles < 32 {
+        write!(line, " {troubles}")?;
+    } else {
+        line.push_str(" many")?;
+    }
+    Ok(())
+}
+
 // What each node counted.
 fn show_counts<H: Host>(rt: HostRuntime, benches: &TestBenches<H>) -> Result<(), Fail> {
     let mut read = String::new(rt.alloc());
@@ -129,7 +139,7 @@ fn show_counts<H: Host>(rt: HostRuntime, benches: &TestBenches<H>) -> Result<(),
     for bench in benches {
         write!(read, " {}", bench.store.given())?;
         write!(checks, " {}", bench.host.checks())?;
-        write!(troubles, " {}", bench.link.troubles())?;
+        show_troubles(&mut troubles, bench.link.troubles())?;
     }
     println!(rt; "    bytes read{read}, checks{checks}, troubles{troubles}")?;
     Ok(())
