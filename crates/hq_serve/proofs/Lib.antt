@@ -1,0 +1,13 @@
+pub mod Growing
+pub mod Homing
+pub mod Lonely
+pub mod Answering
+pub mod Beginning
+pub mod Finding
+pub mod Going
+pub mod Piecewise
+pub mod Reached
+pub mod Rising
+pub mod Seating
+pub mod Starting
+pub mod Stopping
