@@ -8,7 +8,7 @@ use Rattle.hq_lane.specs.Lanes.{LaneState, PartState, id_of, file_of, part_at, n
 use Rattle.hq_lane.specs.BucketFiles.{BucketState, no_file, IsGrown}
 use Rattle.hq_lane.specs.Packing.{GrewByFirst}
 use Rattle.hq_catalogtests.proofs.Places.{no_truth}
-use Rattle.hq_catalogtests.proofs.Worked.{IsSameLane, GetsNoSeal}
+use Rattle.hq_catalogtests.specs.Turns.{IsSameLane, GetsNoSeal}
 
 -- node 0 owns all files
 abbrev pub zeros : List ℕ

@@ -33,9 +33,11 @@ use Rattle.hq_catalog.specs.CatStep.{CatStep, LookStep, CreateStep, AlterStep, L
 use Rattle.hq_catalog.specs.Stands.{Stands}
 use Rattle.hq_catalog.proofs.Seen.{SeesSame, is_other, out_same, swept_same}
 use Rattle.hq_catalog.proofs.Others.{GoesOn, goes_on, entries-append, pool-push, tables-push}
+use Rattle.hq_catalogtests.specs.declared.hand.Hand.{Hand}
 use Rattle.hq_catalogtests.specs.declared.hand.Held.{Held}
 use Rattle.hq_catalogtests.specs.declared.hand.Held.TheVariants as held
-use Rattle.hq_catalogtests.specs.Turns.{Keeps, HasJust, Has, HasMade, HasTurned, IsStill, OthersKeep}
+use Rattle.hq_catalogtests.specs.Turns.{Keeps, HasSealed, HasJust, HasBeside, Has, HasMade, HasTurned, IsStill, OthersKeep}
+use Rattle.hq_catalogtests.proofs.Hands.{agrees_still, sealed_still, no_other_still}
 use Rattle.hq_catalogtests.proofs.Places.{held_is, holds_out, holds_swept}
 
 there_by : (k : ℕ) (ps qs : List Place) (n : ℕ) (p : Place) → SeesSame k ps qs → (p ≡ Out k) ⊎ (p ≡ Sweeping k) → slice_get ps n ≡ Some p → slice_get qs n ≡ Some p
@@ -180,28 +182,37 @@ module _ {F Z : Type 0} (nodes k m : ℕ) (old new : List Noted) where
   has_made a (answer.Made t) s = made_there a t s
   has_made a _ s = tt
 
-just_still : (k : ℕ) (old new : List Noted) (place : Place) (l : LaneState) → is_held_by k place ≡ true → Keeps k old new → HasJust k old place l → HasJust k new place l
-just_still k old new place l holds ks has = record {
+just_still : (k : ℕ) (old new : List Noted) (lanes : List LaneState) (place : Place) (l : LaneState) → is_held_by k place ≡ true → Keeps k old new → HasJust k old lanes place l → HasJust k new lanes place l
+just_still k old new lanes place l holds ks has = record {
   at = ks.there l.table l.number place holds has.at;
+  beside = has.beside;
   only = λ t n p h at. has.only t n p h (ks.only t n p h at);
-  agrees = record {
-    base = λ b lt. has.agrees.base b lt ∙ sym (ks.lengths l.table l.number place holds has.at b);
-    bytes = λ told b lt. absurd (cc);
-  };
+  agrees = agrees_still k old new place l holds ks has.at has.agrees;
 }
 
 -- the session has what it had
-pub has_still : (k : ℕ) (old new : List Noted) (h : Held) → Keeps k old new → Has k old h → Has k new h
-has_still k old new held.Nothing ks has = λ t n p h at. has t n p h (ks.only t n p h at)
-has_still k old new (held.Writes l) ks has = (just_still k old new (Out k) l (holds_out k) ks has.0, has.1, has.2)
-has_still k old new (held.Torn l) ks has = (just_still k old new (Out k) l (holds_out k) ks has.0, has.1)
-has_still k old new (held.Sealed l) ks has = (just_still k old new (Out k) l (holds_out k) ks has.0, has.1)
-has_still k old new (held.Sweeps l) ks has = (just_still k old new (Sweeping k) l (holds_swept k) ks has.0, has.1)
+beside_still : (k : ℕ) (old new : List Noted) (lanes : List LaneState) (h : Held) → Keeps k old new → HasBeside k old lanes h → HasBeside k new lanes h
+beside_still k old new lanes held.Nothing ks has = no_other_still k old new lanes ks has
+beside_still k old new lanes (held.Writes l) ks has = (just_still k old new lanes (Out k) l (holds_out k) ks has.0, has.1, has.2)
+beside_still k old new lanes (held.Torn l) ks has = (just_still k old new lanes (Out k) l (holds_out k) ks has.0, has.1)
+beside_still k old new lanes (held.Sweeps l) ks has = (just_still k old new lanes (Sweeping k) l (holds_swept k) ks has.0, has.1)
+
+pub has_still : (k : ℕ) (old new : List Noted) (hand : Hand) → Keeps k old new → Has k old hand → Has k new hand
+has_still k old new hand ks has = record {
+  sealed = sealed_still k old new hand.sealed.items ks has.sealed;
+  held = beside_still k old new hand.sealed.items hand.held ks has.held;
+}
 
 -- what may not be asked changes nothing
-pub turned_same : (k : ℕ) (history : List Noted) (h : Held) → Has k history h → HasTurned k history history h
-turned_same k history h has = record { keep = others_same k history; has = has }
+pub turned_same : (k : ℕ) (history : List Noted) (hand : Hand) → Has k history hand → HasTurned k history history hand
+turned_same k history hand has = record { keep = others_same k history; has = has }
 
 -- the session has what an answer to it left, and the others have what they had
-pub turned_to : (k : ℕ) (old new : List Noted) (now given : Held) → OthersKeep k old new → now ≡ given → Has k new given → HasTurned k old new now
-turned_to k old new now given keep is has = record { keep = keep; has = subst (Has k new) (sym is) has }
+pub turned_to : (k : ℕ) (old new : List Noted) (hand : Hand) (lanes : List LaneState) (given : Held) → OthersKeep k old new → hand.sealed.items ≡ lanes → hand.held ≡ given → HasSealed k new lanes × HasBeside k new lanes given → HasTurned k old new hand
+turned_to k old new hand lanes given keep these is has = record {
+  keep = keep;
+  has = record {
+    sealed = subst (λ (ls : List LaneState). HasSealed k new ls) (sym these) has.0;
+    held = subst (λ (ls : List LaneState). HasBeside k new ls hand.held) (sym these) (subst (λ (h : Held). HasBeside k new lanes h) (sym is) has.1);
+  };
+}

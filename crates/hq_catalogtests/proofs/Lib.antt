@@ -1,5 +1,6 @@
 pub mod Answered
 pub mod Appended
+pub mod Hands
 pub mod Kept
 pub mod Looking
 pub mod Places

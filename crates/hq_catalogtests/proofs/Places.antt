@@ -4,7 +4,7 @@ use Rattle.std.specs.List.{list_any}
 use Rattle.std.proofs.lemmas.Bool.{eqb-true}
 use Rattle.hq_log.specs.declared.place.Place.{Place}
 use Rattle.hq_log.specs.declared.place.Place.TheVariants.{Unborn, Clean, Dirty, Out, Sweeping}
-use Rattle.hq_log.specs.Places.{is_out_to, is_swept_by, is_held_by, passes_at}
+use Rattle.hq_log.specs.Places.{is_clean, is_dirty, is_unborn, is_out_to, is_swept_by, is_held_by, passes_at}
 use Rattle.hq_log.specs.Pools.{home, committed}
 use Rattle.hq_catalog.proofs.Seen.{is_same}
 
@@ -42,6 +42,28 @@ pub home_free : (k : ℕ) (clean : Bool) → is_held_by k (home clean) ≡ false
 home_free k true = refl
 home_free k false = refl
 
+-- a place that is at home is nobody's
+pub clean_free : (k : ℕ) (p : Place) → is_clean p ≡ true → is_held_by k p ≡ false
+clean_free k Unborn e = refl
+clean_free k Clean e = refl
+clean_free k Dirty e = refl
+clean_free k (Out j) e = absurd (cc)
+clean_free k (Sweeping j) e = absurd (cc)
+
+pub dirty_free : (k : ℕ) (p : Place) → is_dirty p ≡ true → is_held_by k p ≡ false
+dirty_free k Unborn e = refl
+dirty_free k Clean e = refl
+dirty_free k Dirty e = refl
+dirty_free k (Out j) e = absurd (cc)
+dirty_free k (Sweeping j) e = absurd (cc)
+
+pub unborn_free : (k : ℕ) (p : Place) → is_unborn p ≡ true → is_held_by k p ≡ false
+unborn_free k Unborn e = refl
+unborn_free k Clean e = refl
+unborn_free k Dirty e = refl
+unborn_free k (Out j) e = absurd (cc)
+unborn_free k (Sweeping j) e = absurd (cc)
+
 pub apart : (k : ℕ) (o : Option Place) → o ≡ Some (Out k) → o ≡ Some (Sweeping k) → ⊥
 apart k o a b = (let e : Some (Out k) ≡ Some (Sweeping k) = sym a ∙ b in cc)
 
@@ -55,9 +77,9 @@ none_any test [] h = refl
 none_any test (p ∷ ps) h = ap (λ b. b || list_any test ps) (false_unless (test p) (λ e. h zero p e refl)) ∙ none_any test ps (λ n q e at. h (suc n) q e at)
 
 -- a place that passes is there
-pub passes_there : (test : Place → Bool) (ps : List Place) (n : ℕ) → passes_at test ps n ≡ true → (p : Place) × (slice_get ps n ≡ Some p)
+pub passes_there : (test : Place → Bool) (ps : List Place) (n : ℕ) → passes_at test ps n ≡ true → (p : Place) × (slice_get ps n ≡ Some p) × (test p ≡ true)
 passes_there test [] n e = absurd (cc)
-passes_there test (p ∷ ps) zero e = (p, refl)
+passes_there test (p ∷ ps) zero e = (p, refl, e)
 passes_there test (p ∷ ps) (suc n) e = passes_there test ps n e
 
 get_set_same : (ps : List Place) (n : ℕ) (p q : Place) → slice_get ps n ≡ Some p → slice_get (slice_set ps n q) n ≡ Some q
@@ -76,6 +98,14 @@ get_set_other (x ∷ ps) (suc n) (suc m) q d = get_set_other ps n m q (λ e. d (
 -- the place that is set
 pub own_set : (u n : ℕ) (p q : Place) (ps : List Place) → slice_get ps n ≡ Some p → slice_get (cond (eqb u u) (slice_set ps n q) ps) n ≡ Some q
 own_set u n p q ps e = ap (λ b. slice_get (cond b (slice_set ps n q) ps) n) (is_same u) ∙ get_set_same ps n p q e
+
+-- and any other
+kept_lane : (t u n m : ℕ) (q x : Place) (ps : List Place) (b : Bool) → eqb t u ≡ b → ((t ≡ u) → (m ≡ n) → ⊥) → slice_get ps m ≡ Some x → slice_get (cond b (slice_set ps n q) ps) m ≡ Some x
+kept_lane t u n m q x ps true e other at = get_set_other ps n m q (λ lane. other (eqb-true t u e) lane) ∙ at
+kept_lane t u n m q x ps false e other at = at
+
+pub kept_set : (t u n m : ℕ) (q x : Place) (ps : List Place) → ((t ≡ u) → (m ≡ n) → ⊥) → slice_get ps m ≡ Some x → slice_get (cond (eqb t u) (slice_set ps n q) ps) m ≡ Some x
+kept_set t u n m q x ps other at = kept_lane t u n m q x ps (eqb t u) refl other at
 
 -- what a place of table t is once lane n of table u is set
 abbrev pub IsFound : (t u n m : ℕ) (q x : Place) → List Place → Type 0

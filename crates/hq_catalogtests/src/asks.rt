@@ -4,14 +4,14 @@ ghost use Rattle.hq_history.specs.Deposits.{tables_left};
 ghost use Rattle.hq_catalog.specs.History.{history};
 ghost use Rattle.hq_catalogtests.specs.Turns.{Has, HasTurned, IsMadeIn, IsReached, listed};
 
-use crate::hand::Held;
+use crate::hand::Hand;
 use crate::turns::{self, Said, Untold};
 use hq_catalog::Ask;
 use hq_snap::{Have, Scope};
 use hq_value::{Column, Name, NoMemory, TableDef};
 use std::alloc::Global;
 
-/// What a session asks; the lane is the one that it has. A look names at most one table that the session has as it was.
+/// What a session asks; the lanes are those that it has. A look names at most one table that the session has as it was.
 #[derive(Drop)]
 pub(crate) enum Turn {
     Look { scope: Scope, have: Option<Have> },
@@ -60,22 +60,22 @@ fn look(
     statement: u32,
     scope: Scope,
     have: Option<Have>,
-    held: Held,
-) -> (Held, Said)
-    requires has { Has session (history false catalogue.old) held }
+    hand: Hand,
+) -> (Hand, Said)
+    requires has { Has session (history false catalogue.old) hand }
     ensures nodes { length catalogue.new.marks ≡ length catalogue.old.marks }
     ensures turned { HasTurned session (history false catalogue.old) (history false catalogue.new) result.0 }
     ensures made { IsMadeIn (history false catalogue.new) result.1 }
 {
     if !is_reached(catalogue, have) {
-        return (held, Said::MayNotAsk);
+        return (hand, Said::MayNotAsk);
     }
     match list_of(alloc, have) {
         Ok(have) => {
             let ask = Ask::Look { scope, have };
-            turns::still(catalogue, session, statement, ask, held)
+            turns::still(catalogue, session, statement, ask, hand)
         }
-        Err(NoMemory) => (held, Said::NoMemory),
+        Err(NoMemory) => (hand, Said::NoMemory),
     }
 }
 
@@ -88,34 +88,34 @@ pub(crate) fn ask(
     session: u32,
     statement: u32,
     turn: Turn,
-    held: Held,
-) -> (Held, Said)
+    hand: Hand,
+) -> (Hand, Said)
     requires tables { tables ≤ length (tables_left (history false catalogue.old)) }
     requires nodes { nodes ≡ length catalogue.old.marks }
-    requires has { Has session (history false catalogue.old) held }
+    requires has { Has session (history false catalogue.old) hand }
     ensures nodes { length catalogue.new.marks ≡ length catalogue.old.marks }
     ensures turned { HasTurned session (history false catalogue.old) (history false catalogue.new) result.0 }
     ensures made { IsMadeIn (history false catalogue.new) result.1 }
 {
     match turn {
         Turn::Look { scope, have } => {
-            look(alloc, catalogue, session, statement, scope, have, held)
+            look(alloc, catalogue, session, statement, scope, have, hand)
         }
-        Turn::Create(def) => turns::still(catalogue, session, statement, Ask::Create(def), held),
+        Turn::Create(def) => turns::still(catalogue, session, statement, Ask::Create(def), hand),
         Turn::Alter { table, column } => {
             let ask = Ask::Alter { table, column };
-            turns::still(catalogue, session, statement, ask, held)
+            turns::still(catalogue, session, statement, ask, hand)
         }
         Turn::Mark { node, up } if node < nodes => {
-            turns::still(catalogue, session, statement, Ask::Mark { node, up }, held)
+            turns::still(catalogue, session, statement, Ask::Mark { node, up }, hand)
         }
         Turn::Lend(table) if table < tables => {
-            turns::lend(catalogue, session, statement, table, held)
+            turns::lend(catalogue, session, statement, table, hand)
         }
-        Turn::Adopt => turns::adopt(catalogue, session, statement, held),
-        Turn::Commit => turns::commit(alloc, catalogue, session, statement, tables, held),
-        Turn::Back => turns::back(catalogue, session, statement, held),
-        Turn::SweepAny => turns::sweep_any(catalogue, session, statement, held),
-        Turn::Mark { .. } | Turn::Lend(_) => (held, Said::MayNotAsk),
+        Turn::Adopt => turns::adopt(catalogue, session, statement, hand),
+        Turn::Commit => turns::commit(alloc, catalogue, session, statement, tables, hand),
+        Turn::Back => turns::back(catalogue, session, statement, hand),
+        Turn::SweepAny => turns::sweep_any(catalogue, session, statement, hand),
+        Turn::Mark { .. } | Turn::Lend(_) => (hand, Said::MayNotAsk),
     }
 }

@@ -1,8 +1,8 @@
 //! What a session has of lanes, and what it does to them itself.
-ghost use Rattle.std.specs.Prelude.{◌<◌, ◌≤◌, All, length};
+ghost use Rattle.std.specs.Prelude.{◌≡◌, ◌<◌, ◌≤◌, [], false, All, IfOk, IfErr, length};
 ghost use Rattle.hq_value.specs.Kinds.{Fits};
-ghost use Rattle.hq_lane.specs.Lanes.{AreWhole};
-ghost use Rattle.hq_catalogtests.specs.Turns.{IsReady, StaysHeld};
+ghost use Rattle.hq_lane.specs.Lanes.{AreSealed, AreWhole};
+ghost use Rattle.hq_catalogtests.specs.Turns.{GetsNoSeal, IsReady, IsSameLane, Stays, StaysHeld, are_below, has_table};
 
 use hq_lane::{Lane, LanePart, parts_make_a_lane};
 use hq_untold::{UntoldFile, UntoldSeal, UntoldStore};
@@ -11,13 +11,18 @@ use std::alloc::Global;
 
 pub(crate) type UntoldLane = Lane<UntoldFile, UntoldSeal>;
 
-/// What a session has: no lane, one to write that is whole or may be torn, one that is sealed, or one to sweep.
+/// What a session works on: no lane, one to write that is whole or may be torn, or one to sweep.
 pub(crate) enum Held {
     Nothing,
     Writes(UntoldLane),
     Torn(UntoldLane),
-    Sealed(UntoldLane),
     Sweeps(UntoldLane),
+}
+
+/// What a session has: the lanes that it has sealed, and what it works on.
+pub(crate) struct Hand {
+    pub(crate) sealed: Vec<UntoldLane>,
+    pub(crate) held: Held,
 }
 
 impl Held {
@@ -25,11 +30,46 @@ impl Held {
     pub(crate) fn give_up(self) {
         match self {
             Held::Nothing => {}
-            Held::Writes(lane) | Held::Torn(lane) | Held::Sealed(lane) | Held::Sweeps(lane) => {
-                lane.abandon()
-            }
+            Held::Writes(lane) | Held::Torn(lane) | Held::Sweeps(lane) => lane.abandon(),
         }
     }
+}
+
+impl Hand {
+    /// No lane at all.
+    pub(crate) fn empty(alloc: Global) -> Hand
+        ensures sealed { result.sealed.items ≡ [] }
+        ensures held { result.held ≡ Held.Nothing }
+    {
+        Hand {
+            sealed: Vec::new(alloc),
+            held: Held::Nothing,
+        }
+    }
+
+    /// Gives up all lanes.
+    pub(crate) fn give_up(self) {
+        let Hand { mut sealed, held } = self;
+        held.give_up();
+        while let Some(lane) = sealed.pop() {
+            lane.abandon();
+        }
+        sealed.destroy_empty();
+    }
+}
+
+/// Whether one of the lanes is of the table.
+pub(crate) fn has_table(lanes: &[UntoldLane], table: u32) -> bool
+    ensures { result ≡ has_table lanes.now table }
+{
+    lanes.iter().any(|lane| lane.table() == table)
+}
+
+/// Whether the lanes are of the first tables, of which there are so many.
+pub(crate) fn are_below(lanes: &[UntoldLane], tables: u32) -> bool
+    ensures { result ≡ are_below lanes.now tables }
+{
+    lanes.iter().all(|lane| lane.table() < tables)
 }
 
 // Adds rows to the file of a bucket.
@@ -85,23 +125,50 @@ pub(crate) fn write(
     }
 }
 
-/// Seals the lane, if the session writes one that is whole.
-pub(crate) fn seal(store: &mut UntoldStore, held: Held) -> Held
-    requires { IsReady held }
-    ensures { StaysHeld held result }
+/// Seals the lane that the session writes, if it is whole.
+pub(crate) fn seal(store: &mut UntoldStore, hand: Hand) -> Hand
+    requires { IsReady hand.held }
+    ensures { Stays hand result }
 {
+    let Hand { mut sealed, held } = hand;
     match held {
         Held::Writes(lane) => {
-            let mut lane = lane;
-            match lane.flush_all(store) {
-                Ok(()) => {
-                    lane.seal_all(store);
-                    Held::Sealed(lane)
+            if sealed.reserve(1).is_err() {
+                let held = Held::Writes(lane);
+                return Hand { sealed, held };
+            }
+            match sealed_lane(store, lane) {
+                Ok(lane) => {
+                    sealed.push_reserved(lane);
+                    let held = Held::Nothing;
+                    Hand { sealed, held }
                 }
-                Err(_) => Held::Torn(lane),
+                Err(lane) => {
+                    let held = Held::Torn(lane);
+                    Hand { sealed, held }
+                }
             }
         }
-        other => other,
+        other => Hand {
+            sealed,
+            held: other,
+        },
+    }
+}
+
+// Seals a whole lane. One whose flush failed may be torn.
+fn sealed_lane(store: &mut UntoldStore, lane: UntoldLane) -> Result<UntoldLane, UntoldLane>
+    requires { AreWhole lane.files }
+    ensures sealed { IfOk result (λ new. IsSameLane lane new × AreSealed false false new.files) }
+    ensures torn { IfErr result (λ new. IsSameLane lane new × GetsNoSeal lane new) }
+{
+    let mut lane = lane;
+    match lane.flush_all(store) {
+        Ok(()) => {
+            lane.seal_all(store);
+            Ok(lane)
+        }
+        Err(_) => Err(lane),
     }
 }
 

@@ -6,7 +6,7 @@ ghost use Rattle.hq_catalog.specs.CatStep.{CatStep};
 ghost use Rattle.hq_catalog.specs.History.{history};
 ghost use Rattle.hq_catalogtests.specs.Turns.{Has, HasMade, HasTurned, IsMadeIn, IsStill, OthersKeep, SaysMade, held_of};
 
-use crate::hand::{Held, UntoldLane};
+use crate::hand::{Hand, Held, UntoldLane, are_below, has_table};
 use hq_catalog::{Answer, Ask, Catalogue};
 use hq_snap::TableDelta;
 use hq_untold::{UntoldFile, UntoldSeal};
@@ -123,11 +123,11 @@ pub(crate) fn still(
     session: u32,
     statement: u32,
     ask: UntoldAsk,
-    held: Held,
-) -> (Held, Said)
+    hand: Hand,
+) -> (Hand, Said)
     requires may { MayAsk false false session ask (history false catalogue.old) (length catalogue.old.marks) }
     requires still { IsStill ask }
-    requires has { Has session (history false catalogue.old) held }
+    requires has { Has session (history false catalogue.old) hand }
     ensures nodes { length catalogue.new.marks ≡ length catalogue.old.marks }
     ensures turned { HasTurned session (history false catalogue.old) (history false catalogue.new) result.0 }
     ensures made { IsMadeIn (history false catalogue.new) result.1 }
@@ -135,111 +135,181 @@ pub(crate) fn still(
     let answer = answered(catalogue, session, statement, ask);
     let (none, said) = take(answer);
     none.give_up();
-    (held, said)
+    (hand, said)
 }
 
-/// Asks for a lane of a table that is made, if the session has none.
+/// Asks for a lane of a table that is made, if the session has none of it and works on none.
 pub(crate) fn lend(
     catalogue: &mut Untold,
     session: u32,
     statement: u32,
     table: u32,
-    held: Held,
-) -> (Held, Said)
+    hand: Hand,
+) -> (Hand, Said)
     requires made { table < length (tables_left (history false catalogue.old)) }
-    requires has { Has session (history false catalogue.old) held }
+    requires has { Has session (history false catalogue.old) hand }
     ensures nodes { length catalogue.new.marks ≡ length catalogue.old.marks }
     ensures turned { HasTurned session (history false catalogue.old) (history false catalogue.new) result.0 }
     ensures made { IsMadeIn (history false catalogue.new) result.1 }
 {
+    let Hand { sealed, held } = hand;
     match held {
-        Held::Nothing => take(answered(catalogue, session, statement, Ask::Lend(table))),
-        other => (other, Said::MayNotAsk),
+        Held::Nothing => {
+            if has_table(&sealed, table) {
+                return (
+                    Hand {
+                        sealed,
+                        held: Held::Nothing,
+                    },
+                    Said::MayNotAsk,
+                );
+            }
+            let (held, said) = take(answered(catalogue, session, statement, Ask::Lend(table)));
+            (Hand { sealed, held }, said)
+        }
+        other => (
+            Hand {
+                sealed,
+                held: other,
+            },
+            Said::MayNotAsk,
+        ),
     }
 }
 
-/// Asks for any lane with a tail, if the session has none.
+/// Asks for any lane with a tail, if the session works on none.
 pub(crate) fn sweep_any(
     catalogue: &mut Untold,
     session: u32,
     statement: u32,
-    held: Held,
-) -> (Held, Said)
-    requires has { Has session (history false catalogue.old) held }
+    hand: Hand,
+) -> (Hand, Said)
+    requires has { Has session (history false catalogue.old) hand }
     ensures nodes { length catalogue.new.marks ≡ length catalogue.old.marks }
     ensures turned { HasTurned session (history false catalogue.old) (history false catalogue.new) result.0 }
     ensures made { IsMadeIn (history false catalogue.new) result.1 }
 {
+    let Hand { sealed, held } = hand;
     match held {
-        Held::Nothing => take(answered(catalogue, session, statement, Ask::SweepAny)),
-        other => (other, Said::MayNotAsk),
+        Held::Nothing => {
+            let (held, said) = take(answered(catalogue, session, statement, Ask::SweepAny));
+            (Hand { sealed, held }, said)
+        }
+        other => (
+            Hand {
+                sealed,
+                held: other,
+            },
+            Said::MayNotAsk,
+        ),
     }
 }
 
-/// Asks to keep the lane that the session has swept, if it is clean.
+/// Asks to keep the lane that the session has swept, if it is clean and the session has sealed none of its table.
 pub(crate) fn adopt(
     catalogue: &mut Untold,
     session: u32,
     statement: u32,
-    held: Held,
-) -> (Held, Said)
-    requires has { Has session (history false catalogue.old) held }
+    hand: Hand,
+) -> (Hand, Said)
+    requires has { Has session (history false catalogue.old) hand }
     ensures nodes { length catalogue.new.marks ≡ length catalogue.old.marks }
     ensures turned { HasTurned session (history false catalogue.old) (history false catalogue.new) result.0 }
     ensures made { IsMadeIn (history false catalogue.new) result.1 }
 {
+    let Hand { sealed, held } = hand;
     match held {
         Held::Sweeps(lane) => {
-            if !lane.is_clean() {
-                return (Held::Sweeps(lane), Said::MayNotAsk);
+            if !lane.is_clean() || has_table(&sealed, lane.table()) {
+                return (
+                    Hand {
+                        sealed,
+                        held: Held::Sweeps(lane),
+                    },
+                    Said::MayNotAsk,
+                );
             }
-            take(answered(catalogue, session, statement, Ask::Adopt(lane)))
+            let (held, said) = take(answered(catalogue, session, statement, Ask::Adopt(lane)));
+            (Hand { sealed, held }, said)
         }
-        other => (other, Said::MayNotAsk),
+        other => (
+            Hand {
+                sealed,
+                held: other,
+            },
+            Said::MayNotAsk,
+        ),
     }
 }
 
-/// Gives back the lane that the session has to write or to sweep.
-pub(crate) fn back(catalogue: &mut Untold, session: u32, statement: u32, held: Held) -> (Held, Said)
-    requires has { Has session (history false catalogue.old) held }
+/// Gives back the lane that the session works on.
+pub(crate) fn back(catalogue: &mut Untold, session: u32, statement: u32, hand: Hand) -> (Hand, Said)
+    requires has { Has session (history false catalogue.old) hand }
     ensures nodes { length catalogue.new.marks ≡ length catalogue.old.marks }
     ensures turned { HasTurned session (history false catalogue.old) (history false catalogue.new) result.0 }
     ensures made { IsMadeIn (history false catalogue.new) result.1 }
 {
+    let Hand { sealed, held } = hand;
     match held {
-        Held::Writes(lane) => take(answered(catalogue, session, statement, Ask::Back(lane))),
-        Held::Torn(lane) => take(answered(catalogue, session, statement, Ask::Back(lane))),
-        Held::Sweeps(lane) => take(answered(catalogue, session, statement, Ask::Back(lane))),
-        other => (other, Said::MayNotAsk),
+        Held::Nothing => (
+            Hand {
+                sealed,
+                held: Held::Nothing,
+            },
+            Said::MayNotAsk,
+        ),
+        Held::Writes(lane) => {
+            let (held, said) = take(answered(catalogue, session, statement, Ask::Back(lane)));
+            (Hand { sealed, held }, said)
+        }
+        Held::Torn(lane) => {
+            let (held, said) = take(answered(catalogue, session, statement, Ask::Back(lane)));
+            (Hand { sealed, held }, said)
+        }
+        Held::Sweeps(lane) => {
+            let (held, said) = take(answered(catalogue, session, statement, Ask::Back(lane)));
+            (Hand { sealed, held }, said)
+        }
     }
 }
 
-/// Asks to commit the lane that the session has, if it is sealed. `tables` are made.
+/// Asks to commit the lanes that the session has sealed, if there are some and it works on none. `tables` are made.
 pub(crate) fn commit(
     alloc: Global,
     catalogue: &mut Untold,
     session: u32,
     statement: u32,
     tables: u32,
-    held: Held,
-) -> (Held, Said)
+    hand: Hand,
+) -> (Hand, Said)
     requires made { tables ≤ length (tables_left (history false catalogue.old)) }
-    requires has { Has session (history false catalogue.old) held }
+    requires has { Has session (history false catalogue.old) hand }
     ensures nodes { length catalogue.new.marks ≡ length catalogue.old.marks }
     ensures turned { HasTurned session (history false catalogue.old) (history false catalogue.new) result.0 }
     ensures made { IsMadeIn (history false catalogue.new) result.1 }
 {
+    let Hand { sealed, held } = hand;
     match held {
-        Held::Sealed(lane) => {
-            if lane.table() >= tables {
-                return (Held::Sealed(lane), Said::MayNotAsk);
+        Held::Nothing => {
+            if sealed.is_empty() || !are_below(&sealed, tables) {
+                return (
+                    Hand {
+                        sealed,
+                        held: Held::Nothing,
+                    },
+                    Said::MayNotAsk,
+                );
             }
-            let Ok(mut lanes) = Vec::with_capacity(alloc, 1) else {
-                return (Held::Sealed(lane), Said::NoMemory);
-            };
-            lanes.push_reserved(lane);
-            take(answered(catalogue, session, statement, Ask::Commit(lanes)))
+            let (held, said) = take(answered(catalogue, session, statement, Ask::Commit(sealed)));
+            let sealed = Vec::new(alloc);
+            (Hand { sealed, held }, said)
         }
-        other => (other, Said::MayNotAsk),
+        other => (
+            Hand {
+                sealed,
+                held: other,
+            },
+            Said::MayNotAsk,
+        ),
     }
 }

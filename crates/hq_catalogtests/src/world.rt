@@ -1,11 +1,11 @@
 //! A catalogue over a store that tells nothing, and the sessions that ask it.
-ghost use Rattle.std.specs.Prelude.{◌≡◌, ◌<◌, ◌≤◌, ℕ, List, IfOk, length, vec_len, slice_set};
+ghost use Rattle.std.specs.Prelude.{◌≡◌, ◌<◌, ◌≤◌, List, Some, IfOk, length, vec_len, slice_get, slice_set};
 ghost use Rattle.hq_history.specs.declared.noted.Noted.{Noted as OneNoted};
 ghost use Rattle.hq_history.specs.Deposits.{tables_left};
-ghost use Rattle.hq_catalogtests.specs.Turns.{IsMadeIn, IsReady, StaysHeld, held_at};
+ghost use Rattle.hq_catalogtests.specs.Turns.{AreEmpty, IsMadeIn, IsReady, Stays, StaysHeld};
 
 use crate::asks::{Turn, ask};
-use crate::hand::{Held, cut, seal, write};
+use crate::hand::{Hand, Held, cut, seal, write};
 use crate::turns::{Said, Untold};
 use hq_catalog::Catalogue;
 use hq_untold::{Reads, UntoldStore};
@@ -32,7 +32,7 @@ pub(crate) struct World {
     catalogue: Untold,
     store: UntoldStore,
     kinds: Kinds,
-    hands: Vec<Held>,
+    hands: Vec<Hand>,
     nodes: u8,
     tables: u32,
     statement: u32,
@@ -82,33 +82,24 @@ fn one_kind(alloc: Global) -> Result<Kinds, NoMemory> {
 }
 
 // So many hands without a lane.
-fn empty_hands(alloc: Global, count: usize) -> Result<Vec<Held>, NoMemory>
-    ensures { IfOk result (λ hands. (k : ℕ) → held_at hands.items k ≡ Held.Nothing) }
+fn empty_hands(alloc: Global, count: usize) -> Result<Vec<Hand>, NoMemory>
+    ensures { IfOk result (λ hands. AreEmpty hands.items) }
 {
     let mut hands = Vec::with_capacity(alloc, count)?;
     for _ in 0..count {
-        hands.push_reserved(Held::Nothing);
+        hands.push_reserved(Hand::empty(alloc));
     }
     Ok(hands)
 }
 
-// Takes what a session has out of its hand.
-fn take_out(hands: &mut Vec<Held>, session: u32) -> Held
+// Takes what a session has out of its place, and puts something else there.
+fn exchange(hands: &mut Vec<Hand>, session: u32, hand: Hand) -> Hand
     requires { session < vec_len hands.old }
-    ensures held { result ≡ held_at hands.old.items session }
+    ensures had { slice_get hands.old.items session ≡ Some result }
     ensures len { vec_len hands.new ≡ vec_len hands.old }
-    ensures taken { hands.new.items ≡ slice_set hands.old.items session Held.Nothing }
+    ensures has { hands.new.items ≡ slice_set hands.old.items session hand }
 {
-    mem::replace(&mut hands[session as usize], Held::Nothing)
-}
-
-// Puts it in.
-fn put_in(hands: &mut Vec<Held>, session: u32, held: Held)
-    requires { session < vec_len hands.old }
-    ensures { hands.new.items ≡ slice_set hands.old.items session held }
-{
-    let none = mem::replace(&mut hands[session as usize], held);
-    none.give_up();
+    mem::replace(&mut hands[session as usize], hand)
 }
 
 // How many tables are known to be made, once a session is told something.
@@ -151,15 +142,23 @@ fn write_rows(
     write(alloc, store, held, kinds, bucket, &rows)
 }
 
-// What is held behind the work.
-fn worked(alloc: Global, store: &mut UntoldStore, kinds: &Kinds, held: Held, work: Work) -> Held
-    requires { IsReady held }
-    ensures { StaysHeld held result }
+// What a session has behind the work.
+fn worked(alloc: Global, store: &mut UntoldStore, kinds: &Kinds, hand: Hand, work: Work) -> Hand
+    requires { IsReady hand.held }
+    ensures { Stays hand result }
 {
     match work {
-        Work::Write { bucket, rows } => write_rows(alloc, store, kinds, held, bucket, rows),
-        Work::Seal => seal(store, held),
-        Work::Cut => cut(store, held),
+        Work::Seal => seal(store, hand),
+        Work::Write { bucket, rows } => {
+            let Hand { sealed, held } = hand;
+            let held = write_rows(alloc, store, kinds, held, bucket, rows);
+            Hand { sealed, held }
+        }
+        Work::Cut => {
+            let Hand { sealed, held } = hand;
+            let held = cut(store, held);
+            Hand { sealed, held }
+        }
     }
 }
 
@@ -195,8 +194,8 @@ impl World {
             return Said::MayNotAsk;
         }
         self.statement = self.statement.saturating_add(1);
-        let held = take_out(&mut self.hands, session);
-        let (held, said) = ask(
+        let hand = exchange(&mut self.hands, session, Hand::empty(self.alloc));
+        let (hand, said) = ask(
             self.alloc,
             &mut self.catalogue,
             self.tables,
@@ -204,9 +203,10 @@ impl World {
             session,
             self.statement,
             turn,
-            held,
+            hand,
         );
-        put_in(&mut self.hands, session, held);
+        let none = exchange(&mut self.hands, session, hand);
+        none.give_up();
         self.tables = made_by(self.tables, &said);
         said
     }
@@ -216,9 +216,10 @@ impl World {
         if session as usize >= self.hands.len() {
             return;
         }
-        let held = take_out(&mut self.hands, session);
-        let held = worked(self.alloc, &mut self.store, &self.kinds, held, work);
-        put_in(&mut self.hands, session, held);
+        let hand = exchange(&mut self.hands, session, Hand::empty(self.alloc));
+        let hand = worked(self.alloc, &mut self.store, &self.kinds, hand, work);
+        let none = exchange(&mut self.hands, session, hand);
+        none.give_up();
     }
 
     /// Gives up all lanes, and ends.
@@ -234,8 +235,8 @@ impl World {
             statement: _,
         } = self;
         let mut hands = hands;
-        while let Some(held) = hands.pop() {
-            held.give_up();
+        while let Some(hand) = hands.pop() {
+            hand.give_up();
         }
         hands.destroy_empty();
     }

@@ -31,7 +31,7 @@ whole-lane-requires c =
     search rules
 
 pub returns-in-Err : goal.returns-in-Err
-returns-in-Err c = subst (λ (l : LaneState). StaysHeld (held.Writes c.args.lane) (held.Writes l)) (sym c.in-Err.ensures.back) (λ k history has. has)
+returns-in-Err c = subst (λ (l : LaneState). StaysHeld (held.Writes c.args.lane) (held.Writes l)) (sym c.in-Err.ensures.back) (λ k history lanes has. has)
 
 pub returns-in-Ok-written : goal.returns-in-Ok-written
 returns-in-Ok-written c =

@@ -1,27 +1,35 @@
 -- The session has what was lent to it.
-use Rattle.std.proofs.Common.{false, length, subst}
+use Rattle.std.proofs.Common.{◌≡◌, ◌∙◌, List, false, length, ap, refl, subst, sym}
+use Rattle.hq_lane.specs.Lanes.{LaneState}
 use Rattle.hq_catalog.specs.History.{history}
-use Rattle.hq_catalogtests.specs.Turns.{Has}
-use Rattle.hq_catalogtests.proofs.Kept.{turned_same, turned_to}
+use Rattle.hq_catalogtests.specs.declared.hand.Held.{Held}
+use Rattle.hq_catalogtests.specs.Turns.{HasBeside, has_table}
+use Rattle.hq_catalogtests.proofs.Kept.{others_same, turned_same, turned_to}
 use Rattle.hq_catalogtests.proofs.Answered.{lends, may_lend}
 use Rattle.hq_catalogtests.proofs.turns.lend.Goals as goal
 
 pub answered-requires : goal.answered-requires
 answered-requires c =
     let old = history false c.args.catalogue.now in
-    let had = subst (Has c.args.session old) c.in-Nothing.is c.requires.has in
-    record { may = may_lend c.args.session old c.args.table c.requires.made had }
+    let lanes = c.args.hand.sealed.items in
+    let had = subst (λ (h : Held). HasBeside c.args.session old lanes h) c.in-Nothing.is c.requires.has.held in
+    let none : has_table lanes c.args.table ≡ false = ap (λ (ls : List LaneState). has_table ls c.args.table) (sym c.deref.ensures.value) ∙ sym c.has_table.ensures ∙ c.if-has_table.false in
+    record { may = may_lend c.args.session old lanes c.args.table c.requires.made had none }
 
-pub returns-in-Nothing-clause-turned : goal.returns-in-Nothing-clause-turned
-returns-in-Nothing-clause-turned c =
+pub returns-else-has_table-clause-turned : goal.returns-else-has_table-clause-turned
+returns-else-has_table-clause-turned c =
     let old = history false c.args.catalogue.now in
     let new = history false c.answered.new.catalogue in
-    let had = subst (Has c.args.session old) c.in-Nothing.is c.requires.has in
-    let has = lends (length c.args.catalogue.now.marks) c.args.session c.args.statement old new c.args.table c.answered.result had c.answered.ensures.step in
-    turned_to c.args.session old new c.take.result.0 _ c.answered.ensures.keep c.take.ensures.held has
+    let lanes = c.args.hand.sealed.items in
+    let had = subst (λ (h : Held). HasBeside c.args.session old lanes h) c.in-Nothing.is c.requires.has.held in
+    let has = lends (length c.args.catalogue.now.marks) c.args.session c.args.statement old new lanes c.args.table c.answered.result (c.requires.has.sealed, had) c.answered.ensures.step in
+    turned_to c.args.session old new (record { sealed = c.args.hand.sealed; held = c.take-held.result.0 }) lanes _ c.answered.ensures.keep refl c.take-held.ensures.held has
 
-pub returns-in-Nothing-clause-made : goal.returns-in-Nothing-clause-made
-returns-in-Nothing-clause-made c = c.take.ensures.made (history false c.answered.new.catalogue) c.answered.ensures.made
+pub returns-else-has_table-clause-made : goal.returns-else-has_table-clause-made
+returns-else-has_table-clause-made c = c.take-held.ensures.made (history false c.answered.new.catalogue) c.answered.ensures.made
+
+pub returns-then-has_table-clause-turned : goal.returns-then-has_table-clause-turned
+returns-then-has_table-clause-turned c = turned_to c.args.session _ _ _ c.args.hand.sealed.items c.args.hand.held (others_same c.args.session (history false c.args.catalogue.now)) refl (sym c.in-Nothing.is) (c.requires.has.sealed, c.requires.has.held)
 
 pub returns-in_default-clause-turned : goal.returns-in_default-clause-turned
-returns-in_default-clause-turned c = turned_same c.args.session (history false c.args.catalogue.now) c.args.held c.requires.has
+returns-in_default-clause-turned c = turned_same c.args.session (history false c.args.catalogue.now) c.args.hand c.requires.has

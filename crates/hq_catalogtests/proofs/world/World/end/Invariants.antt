@@ -2,5 +2,5 @@
 use Rattle.std.proofs.Common.{vec_len}
 use Rattle.hq_catalogtests.proofs.world.World.end.Given as goal
 
-abbrev pub decreases-loop-held : goal.decreases-loop-held
-decreases-loop-held l = vec_len l.hands
+abbrev pub decreases-loop-hand : goal.decreases-loop-hand
+decreases-loop-hand l = vec_len l.hands
